@@ -1,0 +1,105 @@
+-- Document 01's arithmetic over a format: constants, magnitudes, fmax and fmin, the modulus, the norm and the inner product. Definitions only. Assumes nothing.
+use Prim.Native.Nat.{ℕ, zero, suc, _+_}
+use mathlib.Core.Bool.{Bool, true, false, _||_, cond}
+use mathlib.Core.List.{List, [], _∷_}
+use lib.Ieee.{Float, nan, inf, fin, Format, binary32, binary64, add, mul, div, lt, eq, isNan, ofBits}
+use Rattle.model.specs.Root.{sqrt}
+
+-- ---- constants, by their patterns
+
+abbrev pub zeroOf : Format → Float
+zeroOf f = ofBits f 0
+
+abbrev pub oneOf : Format → Float
+oneOf binary32 = ofBits binary32 0x3f80_0000
+oneOf binary64 = ofBits binary64 0x3ff0_0000_0000_0000
+
+-- one half
+abbrev pub halfOf : Format → Float
+halfOf binary32 = ofBits binary32 0x3f00_0000
+halfOf binary64 = ofBits binary64 0x3fe0_0000_0000_0000
+
+abbrev pub infinityOf : Format → Float
+infinityOf binary32 = ofBits binary32 0x7f80_0000
+infinityOf binary64 = ofBits binary64 0x7ff0_0000_0000_0000
+
+-- 2 ^ -23 and 2 ^ -52
+abbrev pub epsOf : Format → Float
+epsOf binary32 = ofBits binary32 0x3400_0000
+epsOf binary64 = ofBits binary64 0x3cb0_0000_0000_0000
+
+-- 2 ^ -126 and 2 ^ -1022
+abbrev pub minPositiveOf : Format → Float
+minPositiveOf binary32 = ofBits binary32 0x0080_0000
+minPositiveOf binary64 = ofBits binary64 0x0010_0000_0000_0000
+
+-- ---- one number
+
+unfoldable pub abs : Float → Float
+abs nan = nan
+abs (inf s) = inf false
+abs (fin s m e) = fin false m e
+
+abbrev pub abs1 : Float → Float
+abs1 x = abs x
+
+abbrev pub abs2 : Format → Float → Float
+abs2 f x = mul f x x
+
+abbrev pub recip : Format → Float → Float
+recip f x = div f (oneOf f) x
+
+abbrev pub mulPow2 : Format → Float → Float → Float
+mulPow2 f x p = mul f x p
+
+-- ---- two numbers
+
+-- p where p > q or q is a NaN, else q
+unfoldable pub fmax : Float → Float → Float
+fmax p q = cond (lt q p || isNan q) p q
+
+-- the same with <
+unfoldable pub fmin : Float → Float → Float
+fmin p q = cond (lt p q || isNan q) p q
+
+-- the modulus of a pair of finite magnitudes, the larger g first
+unfoldable pub modulus : Format → Float → Float → Float
+unfolding sqrt
+modulus f g h = cond (eq g (zeroOf f)) (zeroOf f) (mul f g (sqrt f (add f (oneOf f) (mul f (div f h g) (div f h g)))))
+
+unfoldable pub isInf : Float → Bool
+isInf nan = false
+isInf (inf s) = true
+isInf (fin s m e) = false
+
+-- infinity if either is infinite; else NaN if either is; else by the larger and the smaller magnitude
+unfoldable pub hypot : Format → Float → Float → Float
+unfolding isInf abs modulus
+hypot f p q =
+    cond (isInf p || isInf q) (inf false)
+    (cond (isNan p || isNan q) nan
+    (cond (lt (abs p) (abs q)) (modulus f (abs q) (abs p)) (modulus f (abs p) (abs q))))
+
+-- ---- lists of numbers
+
+-- hypot of a with each number in turn
+unfoldable pub normFrom : Format → Float → List Float → Float
+unfolding hypot
+normFrom f a [] = a
+normFrom f a (x ∷ xs) = normFrom f (hypot f a x) xs
+
+-- the magnitude of the first, then hypot with each next; of nothing, +0
+unfoldable pub normL2 : Format → List Float → Float
+unfolding abs normFrom
+normL2 f [] = zeroOf f
+normL2 f (x ∷ xs) = normFrom f (abs x) xs
+
+-- a plus the products of the k pairs from place i on, left to right
+unfoldable pub innerFrom : Format → (ℕ → Float) → (ℕ → Float) → ℕ → ℕ → Float → Float
+innerFrom f x y zero i a = a
+innerFrom f x y (suc k) i a = innerFrom f x y k (i + 1) (add f a (mul f (x i) (y i)))
+
+-- the inner product of two rows of k numbers
+unfoldable pub innerProd : Format → (ℕ → Float) → (ℕ → Float) → ℕ → Float
+unfolding innerFrom
+innerProd f x y k = innerFrom f x y k 0 (zeroOf f)
