@@ -53,9 +53,13 @@ unfolding normL2 flushed reflectNothing reflectTail
 makeHouseholder f head tail =
     cond (lt (normL2 f tail) (minPositiveOf f)) (reflectNothing f (flushed f head) tail) (reflectTail f (flushed f head) (normL2 f tail) tail)
 
--- the call: a tail of 1 to 3 numbers; any other is turned away, and stays
+-- line 11 of document 01's list does not apply
+unfoldable pub tailFits : ℕ → Bool
+tailFits k = leb 1 k && leb k 3
+
+-- the call: a tail of any other length is turned away, and stays
 unfoldable pub makeHouseholderInPlace : Format → Float → List Float → Reflection
-unfolding makeHouseholder
+unfolding tailFits makeHouseholder
 makeHouseholderInPlace f head tail =
-    cond (leb 1 (length tail) && leb (length tail) 3) (makeHouseholder f head tail)
+    cond (tailFits (length tail)) (makeHouseholder f head tail)
     (record { answer = 11; head = zeroOf f; tau = zeroOf f; headWithBetaInv = zeroOf f; norm = zeroOf f; tail = tail })

@@ -23,12 +23,15 @@ unfoldable pub rotgNorm : Format → Float → Float → Float
 unfolding rotgScale sqrt
 rotgNorm f p q = let k = rotgScale f p q in mul f k (sqrt f (add f (abs2 f (div f p k)) (abs2 f (div f q k))))
 
--- r with the sign of the number that is larger in magnitude, q at a tie
+-- the number that is larger in magnitude, q at a tie
+unfoldable pub rotgLarger : Float → Float → Float
+unfolding abs
+rotgLarger p q = cond (lt (abs q) (abs p)) p q
+
+-- that root with the sign of the larger number
 unfoldable pub rotgSigned : Format → Float → Float → Float
-unfolding rotgNorm abs
-rotgSigned f p q =
-    let r = rotgNorm f p q in
-    cond (lt (abs q) (abs p)) (cond (lt (zeroOf f) p) r (neg r)) (cond (lt (zeroOf f) q) r (neg r))
+unfolding rotgNorm rotgLarger
+rotgSigned f p q = cond (lt (zeroOf f) (rotgLarger p q)) (rotgNorm f p q) (neg (rotgNorm f p q))
 
 unfoldable pub rotg : Format → Float → Float → Rotg
 unfolding rotgSigned
