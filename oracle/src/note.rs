@@ -31,6 +31,11 @@ pub fn take() -> Notes {
     NOTES.take()
 }
 
+/// The notes taken so far.
+pub fn seen() -> Notes {
+    NOTES.get()
+}
+
 pub fn swap() {
     change(|n| n.swaps += 1);
 }
