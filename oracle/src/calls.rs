@@ -9,6 +9,16 @@ use crate::shim::*;
 use crate::taken::jacobi::JacobiRotation;
 use crate::taken::{eigen, evd, householder, leaves, schur_swap};
 
+/// The results of each call with a buffer for them, in the buffer's order.
+pub const ROTG: &[&str] = &["c", "s", "r"];
+pub const ADJOINT: &[&str] = &["c", "s"];
+pub const APPLY: &[&str] = &["x", "y"];
+pub const REFLECTION: &[&str] = &["head", "tau", "head_with_beta_inv", "norm"];
+pub const STANDARDISED: &[&str] = &["a", "b", "c", "d", "s1re", "s1im", "s2re", "s2im", "cs", "sn"];
+pub const SOLUTION: &[&str] = &["x00", "x10", "x01", "x11", "scale"];
+pub const EXCHANGED: &[&str] = &["swaps", "declined"];
+pub const MOVED: &[&str] = &["landed", "swaps", "declined"];
+
 /// The plain branch of the solvers is taken below this many rows: always.
 const PARAMS: EvdFromSchurParams = EvdFromSchurParams { recursion_threshold: 65 };
 
@@ -32,19 +42,19 @@ fn run(case: &Record) -> Record {
         "hypot" => value(case, arith::hypot(case.f("p"), case.f("q"))),
         "norm_l2" => value(case, arith::norm_l2(case.l("x").iter().copied())),
         "inner_prod" => value(case, arith::inner_prod(case.l("x").iter().copied().zip(case.l("y").iter().copied()))),
-        "rotg" => results(case, &["c", "s", "r"], |c| {
+        "rotg" => results(case, ROTG, |c| {
             let (rot, r) = JacobiRotation::rotg(c.f("p"), c.f("q"));
             vec![rot.c, rot.s, r]
         }),
-        "adjoint" => results(case, &["c", "s"], |c| {
+        "adjoint" => results(case, ADJOINT, |c| {
             let rot = JacobiRotation { c: c.f("c"), s: c.f("s") }.adjoint();
             vec![rot.c, rot.s]
         }),
-        "apply" => results(case, &["x", "y"], |c| {
+        "apply" => results(case, APPLY, |c| {
             let (x, y) = arith::apply(c.f("c"), c.f("s"), c.f("x"), c.f("y"));
             vec![x, y]
         }),
-        "lahqr_schur22" => results(case, &["a", "b", "c", "d", "s1re", "s1im", "s2re", "s2im", "cs", "sn"], standardise),
+        "lahqr_schur22" => results(case, STANDARDISED, standardise),
         "make_householder_in_place" => reflect(case),
         "lasy2" => solve(case),
         "schur_swap" => exchange(case),
@@ -74,10 +84,11 @@ fn out_fits(case: &Record) -> bool {
 fn results(case: &Record, keys: &[&'static str], run: impl Fn(&Record) -> Vec<f64>) -> Record {
     let passed = refuse::results(case.out(), keys.len());
     let answer = numbered(case, passed);
-    match passed {
-        Ok(()) => keys.iter().zip(run(case)).fold(answer, |answer, (key, x)| answer.float(key, x)),
-        Err(_) => answer,
-    }
+    if passed.is_ok() { floats(answer, keys, &run(case)) } else { answer }
+}
+
+fn floats(answer: Record, keys: &[&'static str], numbers: &[f64]) -> Record {
+    keys.iter().zip(numbers).fold(answer, |answer, (key, x)| answer.float(key, *x))
 }
 
 fn standardise(case: &Record) -> Vec<f64> {
@@ -87,14 +98,13 @@ fn standardise(case: &Record) -> Vec<f64> {
 
 fn reflect(case: &Record) -> Record {
     let mut tail = case.l("tail").to_vec();
-    let passed = refuse::results(case.out(), 4).and_then(|()| refuse::reflection(&tail));
+    let passed = refuse::results(case.out(), REFLECTION.len()).and_then(|()| refuse::reflection(&tail));
     let mut answer = numbered(case, passed);
     if passed.is_ok() {
         let mut head = case.f("head");
         let rows = tail.len();
         let info = householder::make_householder_in_place(&mut head, MatMut::from_slice(&mut tail, rows, 1).col_mut(0));
-        answer = answer.float("head", head).float("tau", info.tau);
-        answer = answer.float("head_with_beta_inv", info.head_with_beta_inv).float("norm", info.norm);
+        answer = floats(answer, REFLECTION, &[head, info.tau, info.head_with_beta_inv, info.norm]);
     }
     answer.list("tail", tail)
 }
@@ -108,8 +118,7 @@ fn solve(case: &Record) -> Record {
     let window = |x| MatRef::from_slice(x, 2, 2);
     let mut x = [0.0; 4];
     let scale = leaves::lasy2(window(tl), window(tr), window(b), MatMut::from_slice(&mut x, 2, 2));
-    let answer = numbered(case, Ok(()));
-    answer.float("x00", x[0]).float("x10", x[1]).float("x01", x[2]).float("x11", x[3]).float("scale", scale)
+    floats(numbered(case, Ok(())), SOLUTION, &[x[0], x[1], x[2], x[3], scale])
 }
 
 /// A lent factor; of length 0, none.

@@ -1,7 +1,10 @@
 //! The Rust side of the comparison. See README.md.
 
+mod archive;
 mod arith;
+mod bindings;
 mod calls;
+mod compare;
 mod generate;
 mod note;
 mod record;
@@ -13,25 +16,37 @@ mod tally;
 #[cfg(test)]
 mod worked;
 
+use compare::Plan;
 use generate::Sizes;
 use record::Record;
 use shim::perm;
 use std::io::{self, BufRead, BufWriter, Read, Write};
+use std::process::ExitCode;
 use tally::Tally;
 
 const USAGE: &str = "\
 oracle answer < cases
 oracle sheet < text
-oracle generate CALL|all COUNT SEED [--n-min N] [--n-max N]";
+oracle generate CALL|all COUNT SEED [--n-min N] [--n-max N]
+oracle compare CALL|all COUNT SEED [--n-min N] [--n-max N] [--sheet PROGRAM]";
 
-fn main() -> io::Result<()> {
+fn main() -> ExitCode {
     let args: Vec<String> = std::env::args().skip(1).collect();
     let words: Vec<&str> = args.iter().map(String::as_str).collect();
-    match words[..] {
-        ["answer"] => answer(),
-        ["sheet"] => sheet(),
-        ["generate", call, count, seed, ref sizes @ ..] => generate_cases(call, count, seed, sizes),
+    let done = match words[..] {
+        ["answer"] => answer().map(|()| true),
+        ["sheet"] => sheet().map(|()| true),
+        ["generate", call, count, seed, ref options @ ..] => plan(call, count, seed, options).and_then(|p| write_cases(&p)),
+        ["compare", call, count, seed, ref options @ ..] => plan(call, count, seed, options).and_then(|p| compare::run(&p)),
         _ => Err(io::Error::other(USAGE)),
+    };
+    match done {
+        Ok(true) => ExitCode::SUCCESS,
+        Ok(false) => ExitCode::from(1),
+        Err(why) => {
+            eprintln!("{why}");
+            ExitCode::from(2)
+        }
     }
 }
 
@@ -61,34 +76,38 @@ fn number<N: std::str::FromStr>(word: &str) -> io::Result<N> {
     word.parse().map_err(|_| io::Error::other(format!("`{word}` is not a number")))
 }
 
-fn sizes_of(words: &[&str]) -> io::Result<Sizes> {
-    let mut sizes = generate::USUAL;
-    for pair in words.chunks(2) {
+/// What `generate` or `compare` is asked to do.
+fn plan(call: &str, count: &str, seed: &str, options: &[&str]) -> io::Result<Plan> {
+    let (calls, count, seed) = (calls_of(call)?, number(count)?, number(seed)?);
+    let mut plan = Plan { calls, count, seed, sizes: generate::USUAL, sheet: None };
+    for pair in options.chunks(2) {
         match *pair {
-            ["--n-min", n] => sizes.least = number(n)?,
-            ["--n-max", n] => sizes.most = number(n)?,
+            ["--n-min", n] => plan.sizes.least = number(n)?,
+            ["--n-max", n] => plan.sizes.most = number(n)?,
+            ["--sheet", program] => plan.sheet = Some(program.to_string()),
             _ => return Err(io::Error::other(USAGE)),
         }
     }
-    if sizes.least == 0 || sizes.least > sizes.most || sizes.most > 64 {
+    let Sizes { least, most } = plan.sizes;
+    if least == 0 || least > most || most > 64 {
         return Err(io::Error::other("rows are 1 to 64, --n-min at most --n-max"));
     }
-    Ok(sizes)
+    Ok(plan)
 }
 
 /// Cases on standard output, and what the Rust makes of them on standard error.
-fn generate_cases(call: &str, count: &str, seed: &str, sizes: &[&str]) -> io::Result<()> {
-    let (names, count, seed, sizes) = (calls_of(call)?, number(count)?, number(seed)?, sizes_of(sizes)?);
+fn write_cases(plan: &Plan) -> io::Result<bool> {
     let mut out = BufWriter::new(io::stdout().lock());
-    for name in names {
+    for name in &plan.calls {
         let mut tally = Tally::default();
-        for index in 0..count {
-            let case = generate::case(name, seed, index, sizes);
+        for index in 0..plan.count {
+            let case = generate::case(name, plan.seed, index, plan.sizes);
             let (answer, notes) = calls::answer(&case);
             tally.add(&answer, &notes);
             writeln!(out, "{case}")?;
         }
         eprintln!("{name}: {tally}");
     }
-    out.flush()
+    out.flush()?;
+    Ok(true)
 }
