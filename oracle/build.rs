@@ -30,11 +30,13 @@ fn shared(here: &Path) -> PathBuf {
 fn extract(src: &Path, out: &Path) {
     let jacobi = Source::read(src, "linalg/jacobi.rs");
     let methods = jacobi.functions(&["rotg", "adjoint"]);
-    let text = format!("{}\nimpl<T: RealField> JacobiRotation<T> {{\n{methods}}}\n", jacobi.structure("JacobiRotation"));
+    let text =
+        format!("{}\nimpl<T: RealField> JacobiRotation<T> {{\n{methods}}}\n", jacobi.structure("JacobiRotation"));
     write(out, "jacobi.rs", &text);
 
     let house = Source::read(src, "linalg/householder.rs");
-    let text = house.structure("HouseholderInfo") + &house.functions(&["make_householder_imp", "make_householder_in_place"]);
+    let text =
+        house.structure("HouseholderInfo") + &house.functions(&["make_householder_imp", "make_householder_in_place"]);
     write(out, "householder.rs", &text);
 
     let schur = Source::read(src, "linalg/evd/schur/real_schur.rs");
@@ -113,7 +115,8 @@ impl Source {
 
     fn item(&self, kind: &str, name: &str, next: &[char]) -> String {
         let start = |c: &char| format!("{kind} {name}{c}");
-        let found: Vec<usize> = next.iter().flat_map(|c| self.text.match_indices(&start(c)).map(|m| m.0).collect::<Vec<_>>()).collect();
+        let found: Vec<usize> =
+            next.iter().flat_map(|c| self.text.match_indices(&start(c)).map(|m| m.0).collect::<Vec<_>>()).collect();
         assert_eq!(found.len(), 1, "{}: `{kind} {name}` expected once", self.name);
         let text = &self.text[found[0]..];
         format!("pub {}\n", &text[..closing(text)])

@@ -14,7 +14,9 @@ pub fn answer(case: &Record) -> Option<Record> {
 
 fn run(case: &Record) -> Option<Record> {
     let one = |f: unsafe extern "C" fn(f64) -> f64| Record::new(case.call).float("r", unsafe { f(case.f("x")) });
-    let two = |f: unsafe extern "C" fn(f64, f64) -> f64, p, q| Record::new(case.call).float("r", unsafe { f(case.f(p), case.f(q)) });
+    let two = |f: unsafe extern "C" fn(f64, f64) -> f64, p, q| {
+        Record::new(case.call).float("r", unsafe { f(case.f(p), case.f(q)) })
+    };
     Some(match case.call {
         "abs" => one(vx_abs()?),
         "abs1" => one(vx_abs1()?),
@@ -40,11 +42,15 @@ fn run(case: &Record) -> Option<Record> {
         }
         "apply" => {
             let f = vx_apply()?;
-            floats(case, calls::APPLY, |out, len| unsafe { f(case.f("c"), case.f("s"), case.f("x"), case.f("y"), out, len) })
+            floats(case, calls::APPLY, |out, len| unsafe {
+                f(case.f("c"), case.f("s"), case.f("x"), case.f("y"), out, len)
+            })
         }
         "lahqr_schur22" => {
             let f = vx_lahqr_schur22()?;
-            floats(case, calls::STANDARDISED, |out, len| unsafe { f(case.f("a"), case.f("b"), case.f("c"), case.f("d"), out, len) })
+            floats(case, calls::STANDARDISED, |out, len| unsafe {
+                f(case.f("a"), case.f("b"), case.f("c"), case.f("d"), out, len)
+            })
         }
         "make_householder_in_place" => reflect(case)?,
         "lasy2" => solve(case)?,
@@ -109,7 +115,9 @@ fn counts(case: &Record, keys: &[&'static str], call: impl FnOnce(*mut usize, us
 fn reflect(case: &Record) -> Option<Record> {
     let f = vx_make_householder_in_place()?;
     let mut tail = case.l("tail").to_vec();
-    let answer = floats(case, calls::REFLECTION, |out, len| unsafe { f(case.f("head"), tail.as_mut_ptr(), tail.len(), out, len) });
+    let answer = floats(case, calls::REFLECTION, |out, len| unsafe {
+        f(case.f("head"), tail.as_mut_ptr(), tail.len(), out, len)
+    });
     Some(answer.list("tail", tail))
 }
 

@@ -13,6 +13,7 @@ mod sheet;
 mod shim;
 mod taken;
 mod tally;
+mod vectors;
 #[cfg(test)]
 mod worked;
 
@@ -28,7 +29,8 @@ const USAGE: &str = "\
 oracle answer < cases
 oracle sheet < text
 oracle generate CALL|all COUNT SEED [--n-min N] [--n-max N]
-oracle compare CALL|all COUNT SEED [--n-min N] [--n-max N] [--sheet PROGRAM]";
+oracle compare CALL|all COUNT SEED [--n-min N] [--n-max N] [--sheet PROGRAM]
+oracle vectors CALL...|all";
 
 fn main() -> ExitCode {
     let args: Vec<String> = std::env::args().skip(1).collect();
@@ -36,8 +38,15 @@ fn main() -> ExitCode {
     let done = match words[..] {
         ["answer"] => answer().map(|()| true),
         ["sheet"] => sheet().map(|()| true),
-        ["generate", call, count, seed, ref options @ ..] => plan(call, count, seed, options).and_then(|p| write_cases(&p)),
-        ["compare", call, count, seed, ref options @ ..] => plan(call, count, seed, options).and_then(|p| compare::run(&p)),
+        ["generate", call, count, seed, ref options @ ..] => {
+            plan(call, count, seed, options).and_then(|p| write_cases(&p))
+        }
+        ["compare", call, count, seed, ref options @ ..] => {
+            plan(call, count, seed, options).and_then(|p| compare::run(&p))
+        }
+        ["vectors", ref calls @ ..] if !calls.is_empty() => {
+            vectors::write(calls, &mut BufWriter::new(io::stdout().lock())).map(|()| true)
+        }
         _ => Err(io::Error::other(USAGE)),
     };
     match done {

@@ -53,7 +53,14 @@ pub const CALLS: &[Call] = &[
     call("lasy2", &[("tl", Kind::List), ("tr", Kind::List), ("b", Kind::List)], Some(5)),
     call(
         "schur_swap",
-        &[("n", Kind::Num), ("t", Kind::List), ("u", Kind::List), ("j0", Kind::Num), ("n1", Kind::Num), ("n2", Kind::Num)],
+        &[
+            ("n", Kind::Num),
+            ("t", Kind::List),
+            ("u", Kind::List),
+            ("j0", Kind::Num),
+            ("n1", Kind::Num),
+            ("n2", Kind::Num),
+        ],
         Some(2),
     ),
     call(
@@ -169,7 +176,8 @@ impl Record {
         for word in words {
             let (key, text) = word.split_once('=').ok_or(format!("`{word}` is not key=value"))?;
             let out = ("out", Kind::Num);
-            let (key, kind) = *call.given.iter().chain([&out]).find(|g| g.0 == key).ok_or(format!("no field `{key}`"))?;
+            let (key, kind) =
+                *call.given.iter().chain([&out]).find(|g| g.0 == key).ok_or(format!("no field `{key}`"))?;
             let value = parse_value(kind, text).ok_or(format!("`{word}` cannot be read"))?;
             record = record.with(key, value);
         }
@@ -187,7 +195,9 @@ pub fn settle(x: f64) -> f64 {
 fn same_value(a: &Value, b: &Value) -> bool {
     match (a, b) {
         (Value::Float(x), Value::Float(y)) => x.to_bits() == y.to_bits(),
-        (Value::List(x), Value::List(y)) => x.len() == y.len() && x.iter().zip(y).all(|(x, y)| x.to_bits() == y.to_bits()),
+        (Value::List(x), Value::List(y)) => {
+            x.len() == y.len() && x.iter().zip(y).all(|(x, y)| x.to_bits() == y.to_bits())
+        }
         _ => a == b,
     }
 }

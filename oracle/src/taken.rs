@@ -85,7 +85,13 @@ mod schur {
         use crate::taken::real_schur;
 
         /// The exchange as the move and the callers reach it: notes a size 2 with a zero inside.
-        pub fn schur_swap<T: RealField>(a: MatMut<'_, T>, q: Option<MatMut<'_, T>>, j0: usize, n1: usize, n2: usize) -> isize {
+        pub fn schur_swap<T: RealField>(
+            a: MatMut<'_, T>,
+            q: Option<MatMut<'_, T>>,
+            j0: usize,
+            n1: usize,
+            n2: usize,
+        ) -> isize {
             let open = |j: usize, size: usize| size == 2 && a[(j + 1, j)] == zero();
             if open(j0, n1) || open(j0 + n1, n2) {
                 note::split();

@@ -44,7 +44,8 @@ impl fmt::Display for Tally {
             write!(f, ", {} with a split, {} with a decline", self.split, self.declined)?;
         }
         if !self.answers.is_empty() {
-            let answers: Vec<String> = self.answers.iter().map(|(number, count)| format!("{number}: {count}")).collect();
+            let answers: Vec<String> =
+                self.answers.iter().map(|(number, count)| format!("{number}: {count}")).collect();
             write!(f, ", answers {{{}}}", answers.join(", "))?;
         }
         Ok(())

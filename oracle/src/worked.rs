@@ -86,7 +86,9 @@ fn a_block_on_its_own() {
 
 #[test]
 fn eigenvectors() {
-    let of = |t: &[f64], v: &[f64]| answer(&format!("evd_from_real_schur n=2 t={} v={}", words(t), words(v))).l("v").to_vec();
+    let of = |t: &[f64], v: &[f64]| {
+        answer(&format!("evd_from_real_schur n=2 t={} v={}", words(t), words(v))).l("v").to_vec()
+    };
     assert_eq!(of(&[1.0, 0.0, 1.0, 2.0], &[9.0; 4])[2..], [1.0, 1.0]);
     let zero = of(&[0.0; 4], &[9.0; 4]);
     same(zero[2], -0.0);
@@ -150,6 +152,8 @@ fn numbers_of_the_lines() {
     assert_eq!(exchanged(4, &t, 2, 1, 1).n("answer"), 6);
     t[3] = f64::NAN;
     assert_eq!(exchanged(4, &t, 2, 1, 1).n("answer"), 5);
-    let tail = |len: usize| answer(&format!("make_householder_in_place head={} tail={}", words(&[1.0]), words(&vec![1.0; len]))).n("answer");
+    let tail = |len: usize| {
+        answer(&format!("make_householder_in_place head={} tail={}", words(&[1.0]), words(&vec![1.0; len]))).n("answer")
+    };
     assert_eq!([tail(0), tail(1), tail(3), tail(4)], [11, 0, 0, 11]);
 }

@@ -12,7 +12,9 @@ pub fn damage(rng: &mut Rng, mut case: Record) -> Record {
         let n = case.n("n").min(99);
         match key {
             "n" => change(rng, &mut case, key, &[0, 1, 33, 64, 65, n + 1, n.saturating_sub(1), usize::MAX, 1 << 32]),
-            "from" | "to" | "j0" | "col" => change(rng, &mut case, key, &[n, n + 1, n.saturating_sub(1), usize::MAX, 0]),
+            "from" | "to" | "j0" | "col" => {
+                change(rng, &mut case, key, &[n, n + 1, n.saturating_sub(1), usize::MAX, 0])
+            }
             "n1" | "n2" => change(rng, &mut case, key, &[0, 1, 2, 3, usize::MAX]),
             "t" if rng.below(4) > 0 => spoil_form(rng, &mut case, n),
             _ => resize(rng, &mut case, key, n),

@@ -42,7 +42,13 @@ fn entry(rng: &mut Rng, kind: usize) -> f64 {
         6 => scaled(rng, 960, 1023),
         7 => scaled(rng, -1022, -930),
         8 => any(rng),
-        _ => if rng.one_in(5) { ordinary(rng) } else { 0.0 },
+        _ => {
+            if rng.one_in(5) {
+                ordinary(rng)
+            } else {
+                0.0
+            }
+        }
     };
     signed(rng, x)
 }

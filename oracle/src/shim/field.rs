@@ -59,7 +59,13 @@ impl<T> ByRef<T> for &T {
 }
 
 pub trait ComplexField:
-    'static + Sized + PartialEq + Ops<Self> + AssignOps + for<'a> Lend<'a, Ref = &'a Self> + for<'a> Lend<'a, Ref: Ops<Self>>
+    'static
+    + Sized
+    + PartialEq
+    + Ops<Self>
+    + AssignOps
+    + for<'a> Lend<'a, Ref = &'a Self>
+    + for<'a> Lend<'a, Ref: Ops<Self>>
 {
     type Real: RealField;
     const IS_REAL: bool;
