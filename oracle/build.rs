@@ -61,22 +61,21 @@ fn extract(src: &Path, out: &Path) {
     write(out, "evd.rs", &evd.functions(&names));
 }
 
-/// `reorder_schur` with notes of where the block stands and of splits put in.
+/// `reorder_schur` with notes put in: the row where it leaves off, and each split.
 fn noted(text: &str) -> String {
-    let text = replace(text, "if ifst == ilst {", "note::here(ifst); if ifst == ilst {", 1);
-    let text = replace(&text, "if here >= ilst {", "note::here(here); if here >= ilst {", 1);
-    let text = replace(&text, "if here <= ilst {", "note::here(here); if here <= ilst {", 1);
+    let text = replace(text, "return;", "note::here(ifst); return;", 1);
+    let text = replace(&text, "break;", "note::here(here); break;", 2);
     replace(&text, "nbf = 3;", "nbf = 3; note::split();", 2)
 }
 
-/// The loop of `partial_schur_real_imp` that writes the values, under a head of ours.
+/// The last loop of `partial_schur_real_imp`, which writes the values, under a head of ours.
 fn block_values(text: &str) -> String {
-    let start = "while idx < limit {";
-    assert_eq!(text.matches(start).count(), 1, "one loop `{start}` expected");
-    let at = text.find(start).unwrap();
+    let at = text.rfind("while ").expect("a loop");
     let body = &text[at..at + closing(&text[at..])];
-    let head = "pub fn block_values<T: RealField>(H: MatRef<'_, T>, V: MatRef<'_, T>, eigvals: &mut [Complex<T>], eigvecs: MatMut<'_, Complex<T>>) {";
-    let set = "let (n, limit) = (H.nrows(), H.nrows()); let perm: Vec<usize> = (0..n).collect(); let mut eigvecs = eigvecs; let mut idx = 0usize;";
+    let head = "pub fn block_values<T: RealField>(H: MatRef<'_, T>, V: MatRef<'_, T>, \
+        eigvals: &mut [Complex<T>], eigvecs: MatMut<'_, Complex<T>>) {";
+    let set = "let (n, limit) = (H.nrows(), H.nrows()); let perm: Vec<usize> = (0..n).collect(); \
+        let mut eigvecs = eigvecs; let mut idx = 0usize;";
     format!("{head}\n{set}\n{body}\n}}\n")
 }
 

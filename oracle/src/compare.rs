@@ -50,10 +50,10 @@ fn compare(plan: &Plan, name: &'static str) -> io::Result<Option<u64>> {
         let Some(ours) = other_side(plan, &case)? else { return Ok(None) };
         let (rust, notes) = calls::answer(&case);
         tally.add(&rust, &notes);
-        if !rust.same(&ours) {
+        if let Some(place) = rust.difference(&ours) {
             differing += 1;
             if differing <= SHOWN {
-                println!("difference in\n{case}\nthe Rust:    {rust}\nthe archive: {ours}");
+                show(&case, &rust, &ours, &place);
             }
         }
         if shown.elapsed() > Duration::from_secs(5) {
@@ -63,6 +63,28 @@ fn compare(plan: &Plan, name: &'static str) -> io::Result<Option<u64>> {
     }
     println!("{name}: {tally}, {differing} differ");
     Ok(Some(differing))
+}
+
+fn show(case: &Record, rust: &Record, ours: &Record, place: &str) {
+    println!("{case}\n  differs first in {place}\n  the Rust:    {rust}\n  the archive: {ours}");
+}
+
+/// Compares given cases, one a line; true if nothing differed.
+pub fn replay(lines: impl Iterator<Item = io::Result<Record>>) -> io::Result<bool> {
+    let mut same = true;
+    for case in lines {
+        let case = case?;
+        let rust = calls::answer(&case).0;
+        let ours = archive::answer(&case).ok_or(io::Error::other(format!("the archive has no {}", case.call)))?;
+        match rust.difference(&ours) {
+            None => println!("{case}\n  the same:    {rust}"),
+            Some(place) => {
+                show(&case, &rust, &ours, &place);
+                same = false;
+            }
+        }
+    }
+    Ok(same)
 }
 
 fn other_side(plan: &Plan, case: &Record) -> io::Result<Option<Record>> {

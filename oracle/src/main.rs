@@ -30,6 +30,7 @@ oracle answer < cases
 oracle sheet < text
 oracle generate CALL|all COUNT SEED [--n-min N] [--n-max N]
 oracle compare CALL|all COUNT SEED [--n-min N] [--n-max N] [--sheet PROGRAM]
+oracle replay < cases
 oracle vectors CALL...|all";
 
 fn main() -> ExitCode {
@@ -37,6 +38,7 @@ fn main() -> ExitCode {
     let words: Vec<&str> = args.iter().map(String::as_str).collect();
     let done = match words[..] {
         ["answer"] => answer().map(|()| true),
+        ["replay"] => compare::replay(cases()),
         ["sheet"] => sheet().map(|()| true),
         ["generate", call, count, seed, ref options @ ..] => {
             plan(call, count, seed, options).and_then(|p| write_cases(&p))
@@ -59,12 +61,20 @@ fn main() -> ExitCode {
     }
 }
 
-/// One answer for each case on standard input.
+/// The cases on standard input, one a line.
+fn cases() -> impl Iterator<Item = io::Result<Record>> {
+    io::stdin()
+        .lock()
+        .lines()
+        .enumerate()
+        .map(|(i, line)| Record::parse(&line?).map_err(|why| io::Error::other(format!("line {}: {why}", i + 1))))
+}
+
+/// One answer for each case.
 fn answer() -> io::Result<()> {
     let mut out = BufWriter::new(io::stdout().lock());
-    for (i, line) in io::stdin().lock().lines().enumerate() {
-        let case = Record::parse(&line?).map_err(|why| io::Error::other(format!("line {}: {why}", i + 1)))?;
-        writeln!(out, "{}", calls::answer(&case).0)?;
+    for case in cases() {
+        writeln!(out, "{}", calls::answer(&case?).0)?;
     }
     out.flush()
 }

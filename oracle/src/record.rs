@@ -161,10 +161,18 @@ impl Record {
         self
     }
 
-    /// Equal in every bit.
-    pub fn same(&self, other: &Record) -> bool {
-        self.fields.len() == other.fields.len()
-            && self.fields.iter().zip(&other.fields).all(|(a, b)| a.0 == b.0 && same_value(&a.1, &b.1))
+    /// Where two answers first differ in a bit, if they do.
+    pub fn difference(&self, other: &Record) -> Option<String> {
+        if self.fields.len() != other.fields.len() {
+            return Some("the fields".to_string());
+        }
+        self.fields.iter().zip(&other.fields).find_map(|((key, x), (other_key, y))| {
+            if key != other_key {
+                Some(format!("{key} and {other_key}"))
+            } else {
+                unlike(x, y).map(|at| format!("{key}{at}"))
+            }
+        })
     }
 
     /// Reads a line that `Display` wrote.
@@ -192,14 +200,17 @@ pub fn settle(x: f64) -> f64 {
     if x.is_nan() { f64::from_bits(0x7ff8_0000_0000_0000) } else { x }
 }
 
-fn same_value(a: &Value, b: &Value) -> bool {
-    match (a, b) {
+/// The place of the first difference: empty for a single value.
+fn unlike(a: &Value, b: &Value) -> Option<String> {
+    let same = match (a, b) {
         (Value::Float(x), Value::Float(y)) => x.to_bits() == y.to_bits(),
-        (Value::List(x), Value::List(y)) => {
-            x.len() == y.len() && x.iter().zip(y).all(|(x, y)| x.to_bits() == y.to_bits())
+        (Value::List(x), Value::List(y)) if x.len() == y.len() => {
+            let at = x.iter().zip(y).position(|(x, y)| x.to_bits() != y.to_bits())?;
+            return Some(format!("[{at}]"));
         }
         _ => a == b,
-    }
+    };
+    if same { None } else { Some(String::new()) }
 }
 
 fn parse_value(kind: Kind, text: &str) -> Option<Value> {

@@ -92,3 +92,37 @@ fn sheet(rng: &mut Rng, sizes: Sizes) -> Record {
     let text = if rng.one_in(3) { text::broken(rng, text) } else { text };
     Record::new("sheet").with("text", Value::Bytes(text))
 }
+
+#[cfg(test)]
+mod tests {
+    use super::*;
+    use crate::calls;
+    use crate::record::CALLS;
+    use crate::tally::Tally;
+
+    #[test]
+    fn cases_read_back() {
+        for call in CALLS {
+            for index in 0..200 {
+                let line = case(call.name, 5, index, USUAL).to_string();
+                assert_eq!(Record::parse(&line).unwrap().to_string(), line);
+            }
+        }
+    }
+
+    #[test]
+    fn splits_declines_and_every_line_occur() {
+        let lines = |call: &'static str| {
+            let mut tally = Tally::default();
+            for index in 0..4000 {
+                let (answer, notes) = calls::answer(&case(call, 5, index, USUAL));
+                tally.add(&answer, &notes);
+            }
+            assert!(call == "evd_from_real_schur" || tally.split > 100 && tally.declined > 100);
+            tally.answers.into_keys().collect::<Vec<usize>>()
+        };
+        assert_eq!(lines("schur_swap"), [0, 2, 3, 4, 5, 6, 7, 8, 9, 10]);
+        assert_eq!(lines("reorder_schur"), [0, 2, 3, 4, 5, 6, 7]);
+        assert_eq!(lines("evd_from_real_schur"), [0, 2, 3, 4, 5, 6]);
+    }
+}
