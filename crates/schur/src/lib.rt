@@ -1,0 +1,3 @@
+// Reordering a real Schur form.
+mod columns;
+mod kernels;
