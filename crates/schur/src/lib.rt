@@ -1,3 +1,5 @@
 // Reordering a real Schur form.
 mod columns;
 mod kernels;
+mod operations;
+mod places;
