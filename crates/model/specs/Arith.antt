@@ -23,6 +23,15 @@ abbrev pub fourOf : Format → Float
 fourOf binary32 = ofBits binary32 0x4080_0000
 fourOf binary64 = ofBits binary64 0x4010_0000_0000_0000
 
+abbrev pub eightOf : Format → Float
+eightOf binary32 = ofBits binary32 0x4100_0000
+eightOf binary64 = ofBits binary64 0x4020_0000_0000_0000
+
+-- one eighth
+abbrev pub eighthOf : Format → Float
+eighthOf binary32 = ofBits binary32 0x3e00_0000
+eighthOf binary64 = ofBits binary64 0x3fc0_0000_0000_0000
+
 abbrev pub infinityOf : Format → Float
 infinityOf binary32 = ofBits binary32 0x7f80_0000
 infinityOf binary64 = ofBits binary64 0x7ff0_0000_0000_0000
