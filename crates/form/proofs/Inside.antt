@@ -1,0 +1,10 @@
+-- A place inside a form. Assumes nothing.
+use Prim.Native.Nat.{ℕ, suc, _+_, _*_, _≤_, _<_}
+use native.Mathlib.Nat.{mul-le-mul, mul-le-mul-left}
+use native.Mathlib.Omega.{arith}
+
+pub inside : (ld n i j : ℕ) → i < ld → j < n → i + ld * j < ld * n
+inside ld n i j h k = let m : ld * suc j ≤ ld * n = mul-le-mul-left ld k in omega arith
+
+pub small : (ld n : ℕ) → ld ≤ 128 → n ≤ 64 → ld * n ≤ 8192
+small ld n h k = mul-le-mul h k
