@@ -3,3 +3,6 @@ mod columns;
 mod kernels;
 mod operations;
 mod places;
+mod standardise;
+mod swap_11;
+mod swap_12;

@@ -1,0 +1,72 @@
+use mathlib.Core.Path.{ap}
+use Rattle.model.specs.Schur22.{Standardised}
+use Rattle.model.specs.Swaps.{blockAt}
+use borrow.Author.Needs.{needs}
+use Rattle.schur.proofs.standardise.standard_block.Statement.{statement}
+use Rattle.schur.proofs.standardise.standard_block.Tie as tie
+use Rattle.schur.proofs.standardise.standard_block.Reads as reads
+use Rattle.schur.proofs.standardise.standard_block.Lts as lts
+use Rattle.linalg.proofs.lahqr_schur22.lahqr_schur22.Reads as lahqr-schur22-reads
+use Rattle.schur.proofs.places.get.Reads as get-reads
+
+-- src/standardise.rt:22:9
+get-requires : tie.Need-get-requires
+get-requires c κs = search needs
+
+-- src/standardise.rt:23:26
+add-get : tie.Need-add-get
+add-get c = search needs
+
+-- src/standardise.rt:23:9
+get-requires-2 : tie.Need-get-requires-2
+get-requires-2 c κs = search needs
+
+-- src/standardise.rt:24:23
+add-get-2 : tie.Need-add-get-2
+add-get-2 c = search needs
+
+-- src/standardise.rt:24:9
+get-requires-3 : tie.Need-get-requires-3
+get-requires-3 c κs = search needs
+
+-- src/standardise.rt:25:23
+add-get-3 : tie.Need-add-get-3
+add-get-3 c = search needs
+
+-- src/standardise.rt:25:30
+add-get-4 : tie.Need-add-get-4
+add-get-4 c = search needs
+
+-- src/standardise.rt:25:9
+get-requires-4 : tie.Need-get-requires-4
+get-requires-4 c κs = search needs
+
+-- src/standardise.rt:26:9
+lahqr-schur22-requires : tie.Need-lahqr-schur22-requires
+lahqr-schur22-requires c κs = search needs
+
+-- src/standardise.rt:18:1
+returns : tie.Need-returns
+unfolding blockAt
+returns c =
+    let a = c .before in
+    let b = a .before in
+    let d = b .before in
+    let e = d .before in
+    let f = e .before in
+    rw (b .get4 .ensures, d .get3 .ensures, e .get2 .ensures, f .get .ensures) at (ap (λ (s : Standardised). s .block) (a .lahqr-schur22 .ensures))
+
+pub standard-block-spec : {M : Type 1} → statement M
+standard-block-spec =
+    tie.close
+    (tie.spec
+    get-requires
+    add-get
+    get-requires-2
+    add-get-2
+    get-requires-3
+    add-get-3
+    add-get-4
+    get-requires-4
+    lahqr-schur22-requires
+    returns)
