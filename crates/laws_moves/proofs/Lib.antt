@@ -1,3 +1,4 @@
 pub mod Places
 pub mod Swap
 pub mod Upper
+pub mod Rows
