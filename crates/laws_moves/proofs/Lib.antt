@@ -2,3 +2,5 @@ pub mod Places
 pub mod Swap
 pub mod Upper
 pub mod Rows
+pub mod Move
+pub mod Lists

@@ -31,9 +31,12 @@ pub record Fed : Type 0 where
   pub to : ℕ
   pub length : ℕ
 
+abbrev pub fedOf : Move → Fed
+fedOf m = record { from = m .from; to = m .to; length = length (m .factor) }
+
 unfoldable pub fed : List Move → List Fed
 fed [] = []
-fed (m ∷ ms) = record { from = m .from; to = m .to; length = length (m .factor) } ∷ fed ms
+fed (m ∷ ms) = fedOf m ∷ fed ms
 
 -- k numbers from i on: i, i + 1, ..
 unfoldable pub countFrom : ℕ → ℕ → List ℕ
