@@ -4,3 +4,4 @@ pub mod Upper
 pub mod Rows
 pub mod Move
 pub mod Lists
+pub mod Worked

@@ -29,9 +29,12 @@ pub diagonal-after : (f : Format) (n : ℕ) (p : List Move) (a : List Float) →
 unfolding rowList
 diagonal-after f n p a h = list-tracks f n p a a (countFrom n 0) (begins f n a h)
 
--- no NaN is needed for the proof: the definitions move numbers and never make one of the diagonal's. It is asked for since a NaN's bits are not settled
+same-row : (f : Format) (n : ℕ) (a : List Float) → PairwiseDifferentBits f n a → (i j : ℕ) → i < n → j < n → bitsAt f n a i ≡ bitsAt f n a j → i ≡ j
+same-row f n a different i j g h e = elim (ℕ-discrete i j) [ yes p ↦ p | no p ↦ absurd (different i j g h (omega arith) e) ]
+
+-- The proof needs no number of the diagonal to be other than a NaN: a move copies them as they are. The claim asks for it since a NaN's bits are not settled.
 pub lists-of-moves : ListsOfMoves
-lists-of-moves f n a b p q ha hb same apart _ = (
+lists-of-moves f n a b p q ha hb same different _ = (
   λ ends. ext-getD 0 rp rq (P .size ∙ sym (Q .size)) (λ i l. let h : i < n = rw (P .size) at l in one-row i h (ends i h)),
   λ rows i h. bits-p i h ∙ ap (λ (rs : List ℕ). bitsAt f n a (getD rs i 0)) rows ∙ sym (bits-q i h),
 )
@@ -53,11 +56,7 @@ lists-of-moves f n a b p q ha hb same apart _ = (
     bits-p i h = ap (toBits f) (P .row i h)
 
     bits-q : (i : ℕ) → i < n → bitsAt f n (formAfter f n q b) i ≡ bitsAt f n a (getD rq i 0)
-    bits-q i h = ap (toBits f) (Q .row i h) ∙ sym (same (getD rq i 0) (Q .inside i h))
+    bits-q i h = let r = getD rq i 0 in let e : bitsAt f n a r ≡ bitsAt f n b r = same r (Q .inside i h) in ap (toBits f) (Q .row i h) ∙ sym e
 
     one-row : (i : ℕ) → i < n → bitsAt f n (formAfter f n p a) i ≡ bitsAt f n (formAfter f n q b) i → getD rp i 0 ≡ getD rq i 0
-    one-row i h e =
-        elim (ℕ-discrete (getD rp i 0) (getD rq i 0)) [
-          | yes y ↦ y
-          | no d ↦ absurd (apart (getD rp i 0) (getD rq i 0) (P .inside i h) (Q .inside i h) d (sym (bits-p i h) ∙ e ∙ bits-q i h))
-        ]
+    one-row i h e = same-row f n a different (getD rp i 0) (getD rq i 0) (P .inside i h) (Q .inside i h) (sym (bits-p i h) ∙ e ∙ bits-q i h)

@@ -104,29 +104,46 @@ move-tracks f n from to a t rs g h k =
     start : Tracks f n a t (putIn x from out)
     start = rw (put-back from rs placed) k
 
--- the line that applies, if one does
+-- ---- the call: turned away for line 4 or line 7, and else the move
+
 line-tells : (r s t : Bool) → eqb (cond r 4 (cond s 7 (cond t 7 0))) 0 ≡ not (r || (s || t))
 line-tells true s t = refl
 line-tells false true t = refl
 line-tells false false true = refl
 line-tells false false false = refl
 
--- turned away: nothing changes
-either : (b : Bool) (P : List Float → List ℕ → Type 0) (u v : Moved) (rs ls : List ℕ) → P (v .form) rs → (b ≡ false → P (u .form) ls) → P (cond (not b) u v .form) (cond b rs ls)
-either true P u v rs ls p q = p
-either false P u v rs ls p q = q refl
+refused-is : (n : ℕ) (m : Move) → line4 n n (m .factor) || (line7 n (m .from) || line7 n (m .to)) ≡ refused n (fedOf m)
+unfolding line4 line7 refused
+refused-is n m = refl
 
+form-of : (b : Bool) (u v : Moved) → cond (not b) u v .form ≡ cond b (v .form) (u .form)
+form-of true u v = refl
+form-of false u v = refl
+
+call-form : (f : Format) (n : ℕ) (m : Move) (t : List Float) → Upper f n t
+    → moveCall f n n t (m .factor) (m .from) (m .to) .form ≡ cond (refused n (fedOf m)) t (move f n n (m .from) (m .to) t .change .form)
+unfolding moveCall
+call-form f n m t u = rw (move-line f n (m .from) (m .to) t (m .factor) u, line-tells, refused-is n m, form-of)
+
+-- a position of a move that is not refused
 below : (n p : ℕ) → line7 n p ≡ false → p < n
 unfolding line7
 below n p e = ltb-true p n (not-false (ltb p n) e)
 
-pub call-tracks : (f : Format) (n : ℕ) (m : Move) (a t : List Float) (rs : List ℕ) → Tracks f n a t rs
-    → Tracks f n a (moveCall f n n t (m .factor) (m .from) (m .to) .form) (rowsMoved n (fedOf m) rs)
-unfolding moveCall rowsMoved refused line4 line7
-call-tracks f n m a t rs k =
-    let l4 = line4 n n (m .factor) in
+both-below : (n : ℕ) (m : Move) → refused n (fedOf m) ≡ false → (m .from < n) × (m .to < n)
+both-below n m e =
     let l7 = line7 n (m .from) in
     let r7 = line7 n (m .to) in
-    rw (move-line f n (m .from) (m .to) t (m .factor) (k .upper), line-tells)
-    (either (l4 || (l7 || r7)) (Tracks f n a) _ _ _ _ k
-    (λ e. let d = or-right l4 (l7 || r7) e in move-tracks f n (m .from) (m .to) a t rs (below n (m .from) (or-left l7 r7 d)) (below n (m .to) (or-right l7 r7 d)) k))
+    let d = or-right (line4 n n (m .factor)) (l7 || r7) (refused-is n m ∙ e) in
+    (below n (m .from) (or-left l7 r7 d), below n (m .to) (or-right l7 r7 d))
+
+either : (b : Bool) (P : List Float → List ℕ → Type 0) (t u : List Float) (rs ls : List ℕ) → P t rs → (b ≡ false → P u ls) → P (cond b t u) (cond b rs ls)
+either true P t u rs ls p q = p
+either false P t u rs ls p q = q refl
+
+pub call-tracks : (f : Format) (n : ℕ) (m : Move) (a t : List Float) (rs : List ℕ) → Tracks f n a t rs
+    → Tracks f n a (moveCall f n n t (m .factor) (m .from) (m .to) .form) (rowsMoved n (fedOf m) rs)
+unfolding rowsMoved
+call-tracks f n m a t rs k =
+    rw (call-form f n m t (k .upper))
+    (either (refused n (fedOf m)) (Tracks f n a) _ _ _ _ k (λ e. let i = both-below n m e in move-tracks f n (m .from) (m .to) a t rs (i .0) (i .1) k))
