@@ -1,15 +1,14 @@
 -- The rule on lists of moves: after a list, the number in row i of the diagonal is the first form's, in the row that the row list has at i. Both directions follow. Assumes nothing.
-use mathlib.Core.Path.{_≡_, refl, sym, ap, _∙_}
-use Prim.Native.Nat.{ℕ, zero, suc, _+_, _<_}
+use mathlib.Core.Path.{_≡_, sym, ap, _∙_}
+use Prim.Native.Nat.{ℕ, _<_}
 use native.Mathlib.Nat.{zero-add}
 use native.Mathlib.Decide.{ℕ-discrete}
 use native.Mathlib.Omega.{arith}
 use mathlib.Core.List.{List, [], _∷_}
-use lib.ListN.{length, getD}
+use lib.ListN.{getD}
 use lib.Seq.{ext-getD}
 use lib.Ieee.{Float, Format, toBits}
-use Rattle.model.specs.Form.{entry}
-use Rattle.laws_moves.specs.Lists.{Move, formAfter, fed, fedOf, countFrom, rowsAfter, rowList, Triangular, bitsAt, SameBits, PairwiseDifferentBits, ListsOfMoves}
+use Rattle.laws_moves.specs.Lists.{Move, formAfter, fed, countFrom, rowsAfter, rowList, Triangular, bitsAt, PairwiseDifferentBits, ListsOfMoves}
 use Rattle.laws_moves.proofs.Upper.{upper}
 use Rattle.laws_moves.proofs.Rows.{Tracks, count-length, count-at}
 use Rattle.laws_moves.proofs.Move.{call-tracks}

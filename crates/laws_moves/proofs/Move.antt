@@ -1,6 +1,6 @@
 -- A move of a triangular form is a chain of exchanges of single rows, down or up, and does to the diagonal what taking out and putting in does to the row list. Assumes nothing.
-use mathlib.Core.Path.{_≡_, refl, sym, ap, _∙_, subst}
-use Prim.Native.Nat.{ℕ, zero, suc, _+_, _-_, _*_, _≤_, _<_}
+use mathlib.Core.Path.{_≡_, refl, _∙_, subst}
+use Prim.Native.Nat.{ℕ, zero, suc, _+_, _-_, _≤_, _<_}
 use native.Mathlib.Numerals.{add-one}
 use native.Mathlib.Decide.{decLt, ℕ-discrete}
 use native.Mathlib.Omega.{arith}
@@ -70,7 +70,7 @@ module _ (f : Format) (n goal x : ℕ) (a : List Float) (rs : List ℕ) (fits : 
         | no p ↦ let q : h ≡ goal = omega arith in rw (le-ltb goal h (omega arith)) (rw q at t)
       ]
 
--- ---- the move, and the call
+-- ---- the move
 
 move-tracks : (f : Format) (n from to : ℕ) (a t : List Float) (rs : List ℕ) → from < n → to < n → Tracks f n a t rs
     → Tracks f n a (move f n n from to t .change .form) (cond (eqb from to) rs (putIn (getD rs from 0) to (takeOut from rs)))

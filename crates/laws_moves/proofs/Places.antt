@@ -6,11 +6,11 @@ use native.Mathlib.Nat.{mul-le-mul-left}
 use native.Mathlib.Decide.{decLt}
 use native.Mathlib.Omega.{arith}
 use mathlib.Core.List.{List}
-use lib.ListN.{length, set, length-set}
+use lib.ListN.{length, length-set}
 use lib.Seq.{getD-set-other}
-use lib.Ieee.{Float, nan, Format}
+use lib.Ieee.{Float, Format}
 use Rattle.model.specs.Form.{place, at}
-use Rattle.model.specs.Jacobi.{Rotation, applyRight}
+use Rattle.model.specs.Jacobi.{Rotation}
 use Rattle.model.specs.Columns.{rotateAt, rotateRun}
 
 -- ---- a place tells its row and its column

@@ -1,14 +1,14 @@
 -- The row list beside a form: taking out, putting in, and two neighbours that change places. A form's diagonal is the first form's, read by the row list, and the exchange of two rows keeps that. Assumes nothing.
-use mathlib.Core.Path.{_≡_, refl, sym, ap, _∙_}
+use mathlib.Core.Path.{_≡_, refl, ap, _∙_}
 use mathlib.Core.Logic.{_≢_}
-use Prim.Native.Nat.{ℕ, zero, suc, _+_, _-_, _*_, _≤_, _<_}
+use Prim.Native.Nat.{ℕ, zero, suc, _+_, _*_, _<_}
 use native.Mathlib.Nat.{le-of-suc-le-suc, not-suc-le-zero}
 use native.Mathlib.Numerals.{add-one}
 use native.Mathlib.Decide.{ℕ-discrete}
 use native.Mathlib.Omega.{arith}
 use mathlib.Core.List.{List, [], _∷_}
 use lib.ListN.{length, getD, set, length-set}
-use lib.Seq.{getD-set-same, getD-set-other, lt-length-set}
+use lib.Seq.{getD-set-same, getD-set-other}
 use lib.Ieee.{Float, Format}
 use Rattle.model.specs.Form.{entry}
 use Rattle.laws_moves.specs.Lists.{takeOut, putIn, countFrom}

@@ -1,14 +1,13 @@
 -- The exchange of two single rows: their diagonal numbers change places, and nothing else on or below the diagonal changes. Assumes nothing.
-use mathlib.Core.Path.{_≡_, refl, sym, ap, _∙_}
-use mathlib.Core.Logic.{_≢_}
-use Prim.Native.Nat.{ℕ, zero, suc, _+_, _-_, _*_, _≤_, _<_}
+use mathlib.Core.Path.{_≡_, refl, ap, _∙_}
+use Prim.Native.Nat.{ℕ, suc, _+_, _-_, _*_, _≤_, _<_}
 use native.Mathlib.Nat.{mul-le-mul-left}
 use native.Mathlib.Omega.{arith}
 use mathlib.Core.List.{List}
-use lib.ListN.{length, set, length-set}
+use lib.ListN.{length, length-set}
 use lib.Seq.{getD-set-same, getD-set-other}
 use lib.Ieee.{Float, nan, Format}
-use Rattle.model.specs.Form.{place, at, entry}
+use Rattle.model.specs.Form.{place, entry}
 use Rattle.model.specs.Jacobi.{Rotation}
 use Rattle.model.specs.Columns.{rotates, onForm, onColumns, onRows}
 use Rattle.model.specs.Swaps.{andThen, put, rotation11, swap11, swapOf}

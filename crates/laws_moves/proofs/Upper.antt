@@ -1,21 +1,22 @@
 -- Triangular forms: every entry below the diagonal is a zero of either sign, so that every block is one row and a move is refused for line 4 or line 7 alone. The exchange of two rows leaves such a form. Assumes nothing.
-use mathlib.Core.Path.{_≡_, refl, sym, ap, _∙_, subst}
+use mathlib.Core.Path.{_≡_, refl, ap, _∙_}
 use mathlib.Core.Logic.{_⊎_, inl, inr}
-use Prim.Native.Nat.{ℕ, zero, suc, _+_, _-_, _*_, _≤_, _<_}
+use Prim.Native.Nat.{ℕ, zero, suc, _+_, _-_, _*_, _<_}
 use native.Mathlib.Nat.{eq-or-lt-of-le, le-of-suc-le-suc}
 use native.Mathlib.Omega.{arith}
 use mathlib.Core.Bool.{Bool, true, false, not, _&&_, _||_, cond, true≢false}
 use mathlib.Core.List.{List}
-use lib.Dec.{eqb, ltb, leb}
+use lib.Dec.{ltb, leb}
 use lib.ListN.{length}
 use lib.Ieee.{Float, Format, eq, ne}
 use borrow.Author.Tests.{ltb-true, leb-true, eqb-true, not-false, eq-eqb}
 use Rattle.model.specs.Arith.{zeroOf}
-use Rattle.model.specs.Form.{place, at, entry, zeroBelow, nonzeroBelow, twoBlock, some, line2, line3, line4, line5, line6, line7, deepIn, touchingIn, formLine}
+use Rattle.model.specs.Form.{place, at, entry, nonzeroBelow, twoBlock, some, line2, line3, line4, line5, line6, line7, deepIn, touchingIn, formLine}
 use Rattle.model.specs.Move.{firstRow, sizeAt, sizeAbove, moveLine}
 use Rattle.laws_moves.specs.Lists.{Triangular}
 use Rattle.laws_moves.proofs.Swap.{after, after-length, after-else}
 
+-- n is allowed, the form has its length, and every entry below the diagonal is zero
 pub record Upper (f : Format) (n : ℕ) (t : List Float) : Type 0 where
   pub rows : line2 n ≡ false
   pub size : length t ≡ n * n
@@ -81,7 +82,7 @@ pub none-below : (f : Format) (n j : ℕ) (t : List Float) → Upper f n t → j
 unfolding ne
 none-below f n j t u h = ap not (u .below (j + 1) j (omega arith) h)
 
--- a test that fails where it holds that another passes
+-- the second test fails where the first passes
 and-false : (a b : Bool) → (a ≡ true → b ≡ false) → a && b ≡ false
 and-false true b h = h refl
 and-false false b h = refl

@@ -2,11 +2,11 @@
 use mathlib.Core.Path.{_≡_, refl, sym, ap, _∙_}
 use Prim.Native.Nat.{ℕ, zero, suc, _+_, _<_}
 use native.Mathlib.Omega.{arith}
-use mathlib.Core.Bool.{Bool, true, false, cond}
+use mathlib.Core.Bool.{true, cond}
 use mathlib.Core.List.{List, [], _∷_}
-use lib.Ieee.{Float, Format, binary64, ofBits, toBits, eq, ne, isNan}
+use lib.Ieee.{Float, binary64, ofBits, toBits, eq, ne, isNan}
 use lib.Dec.{eqb}
-use Rattle.model.specs.Form.{zeroBelow, formLine, line2, line3, line5, line6, some, deepIn, touchingIn}
+use Rattle.model.specs.Form.{zeroBelow, formLine, line2, line3, line5, line6, deepIn, touchingIn}
 use Rattle.laws_moves.specs.Lists.{Fed, countFrom, takeOut, putIn, refused, rowsMoved, rowsAfter, rowList, Triangular, bitsAt, PairwiseDifferentBits, NoNanOnDiagonal}
 
 -- a move with a factor of so many numbers
