@@ -6,3 +6,4 @@ mod places;
 mod standardise;
 mod swap_11;
 mod swap_12;
+mod swap_22;

@@ -4,48 +4,34 @@ use Rattle.model.specs.Swaps.{blockAt}
 use borrow.Author.Needs.{needs}
 use Rattle.schur.proofs.standardise.standard_block.Statement.{statement}
 use Rattle.schur.proofs.standardise.standard_block.Tie as tie
-use Rattle.schur.proofs.standardise.standard_block.Reads as reads
-use Rattle.schur.proofs.standardise.standard_block.Lts as lts
-use Rattle.linalg.proofs.lahqr_schur22.lahqr_schur22.Reads as lahqr-schur22-reads
-use Rattle.schur.proofs.places.get.Reads as get-reads
 
--- src/standardise.rt:22:9
 get-requires : tie.Need-get-requires
 get-requires c κs = search needs
 
--- src/standardise.rt:23:26
 add-get : tie.Need-add-get
 add-get c = search needs
 
--- src/standardise.rt:23:9
 get-requires-2 : tie.Need-get-requires-2
 get-requires-2 c κs = search needs
 
--- src/standardise.rt:24:23
 add-get-2 : tie.Need-add-get-2
 add-get-2 c = search needs
 
--- src/standardise.rt:24:9
 get-requires-3 : tie.Need-get-requires-3
 get-requires-3 c κs = search needs
 
--- src/standardise.rt:25:23
 add-get-3 : tie.Need-add-get-3
 add-get-3 c = search needs
 
--- src/standardise.rt:25:30
 add-get-4 : tie.Need-add-get-4
 add-get-4 c = search needs
 
--- src/standardise.rt:25:9
 get-requires-4 : tie.Need-get-requires-4
 get-requires-4 c κs = search needs
 
--- src/standardise.rt:26:9
 lahqr-schur22-requires : tie.Need-lahqr-schur22-requires
 lahqr-schur22-requires c κs = search needs
 
--- src/standardise.rt:18:1
 returns : tie.Need-returns
 unfolding blockAt
 returns c =

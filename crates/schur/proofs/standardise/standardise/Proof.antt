@@ -4,37 +4,25 @@ use Rattle.model.specs.Swaps.{standardise}
 use borrow.Author.Needs.{needs}
 use Rattle.schur.proofs.standardise.standardise.Statement.{statement}
 use Rattle.schur.proofs.standardise.standardise.Tie as tie
-use Rattle.schur.proofs.standardise.standardise.Reads as reads
-use Rattle.schur.proofs.standardise.standardise.Lts as lts
-use Rattle.schur.proofs.operations.rotate_factor.Reads as rotate-factor-reads
-use Rattle.schur.proofs.standardise.standard_block.Reads as standard-block-reads
-use Rattle.schur.proofs.standardise.standard_form.Reads as standard-form-reads
 
--- src/standardise.rt:47:9
 standard-block-requires : tie.Need-standard-block-requires
 standard-block-requires c κs = search needs
 
--- src/standardise.rt:48:5
 standard-form-requires : tie.Need-standard-form-requires
 standard-form-requires c κs = search needs
 
--- src/standardise.rt:50:39
 add-rotate-factor : tie.Need-add-rotate-factor
 add-rotate-factor c = search needs
 
--- src/standardise.rt:50:5
 rotate-factor-requires : tie.Need-rotate-factor-requires
 rotate-factor-requires c κs = search needs
 
--- src/standardise.rt:43:1
 same-length : tie.Need-same-length
 same-length c = search needs
 
--- src/standardise.rt:43:1
 same-length-2 : tie.Need-same-length-2
 same-length-2 c = search needs
 
--- src/standardise.rt:43:1
 returns : tie.Need-returns
 unfolding standardise onFactor
 returns c =

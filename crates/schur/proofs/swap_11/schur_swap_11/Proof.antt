@@ -4,37 +4,25 @@ use Rattle.model.specs.Swaps.{swap11}
 use borrow.Author.Needs.{needs}
 use Rattle.schur.proofs.swap_11.schur_swap_11.Statement.{statement}
 use Rattle.schur.proofs.swap_11.schur_swap_11.Tie as tie
-use Rattle.schur.proofs.swap_11.schur_swap_11.Reads as reads
-use Rattle.schur.proofs.swap_11.schur_swap_11.Lts as lts
-use Rattle.schur.proofs.operations.rotate_factor.Reads as rotate-factor-reads
-use Rattle.schur.proofs.swap_11.form_11.Reads as form-11-reads
-use Rattle.schur.proofs.swap_11.rotation_11.Reads as rotation-11-reads
 
--- src/swap_11.rt:43:9
 rotation-11-requires : tie.Need-rotation-11-requires
 rotation-11-requires c κs = search needs
 
--- src/swap_11.rt:44:5
 form-11-requires : tie.Need-form-11-requires
 form-11-requires c κs = search needs
 
--- src/swap_11.rt:45:39
 add-rotate-factor : tie.Need-add-rotate-factor
 add-rotate-factor c = search needs
 
--- src/swap_11.rt:45:5
 rotate-factor-requires : tie.Need-rotate-factor-requires
 rotate-factor-requires c κs = search needs
 
--- src/swap_11.rt:39:1
 same-length : tie.Need-same-length
 same-length c = search needs
 
--- src/swap_11.rt:39:1
 same-length-2 : tie.Need-same-length-2
 same-length-2 c = search needs
 
--- src/swap_11.rt:39:1
 returns : tie.Need-returns
 unfolding swap11 onFactor
 returns c =

@@ -3,53 +3,37 @@ use Rattle.model.specs.Swaps.{reflectors3}
 use borrow.Author.Needs.{needs}
 use Rattle.schur.proofs.swap_12.reflectors_3.Statement.{statement}
 use Rattle.schur.proofs.swap_12.reflectors_3.Tie as tie
-use Rattle.schur.proofs.swap_12.reflectors_3.Reads as reads
-use Rattle.schur.proofs.swap_12.reflectors_3.Lts as lts
-use Rattle.arith.proofs.real.recip.Reads as recip-reads
-use Rattle.linalg.proofs.householder.make_householder_in_place.Reads as make-householder-in-place-reads
-use Rattle.schur.proofs.kernels.reflect_triple.Reads as reflect-triple-reads
 
--- src/swap_12.rt:21:45
 slice-aggregate-make-householder-in-place : tie.Need-slice-aggregate-make-householder-in-place
 slice-aggregate-make-householder-in-place c = search needs
 
--- src/swap_12.rt:21:9
 make-householder-in-place-requires : tie.Need-make-householder-in-place-requires
 make-householder-in-place-requires c κs = search needs
 
--- src/swap_12.rt:22:9
 recip-requires : tie.Need-recip-requires
 recip-requires c κs = search needs
 
--- src/swap_12.rt:23:15
 array-read-v11 : tie.Need-array-read-v11
 array-read-v11 c = search needs
 
--- src/swap_12.rt:24:15
 array-read-v12 : tie.Need-array-read-v12
 array-read-v12 c = search needs
 
--- src/swap_12.rt:25:9
 reflect-triple-requires : tie.Need-reflect-triple-requires
 reflect-triple-requires c κs = search needs
 
--- src/swap_12.rt:27:45
 slice-aggregate-make-householder-in-place-2 : tie.Need-slice-aggregate-make-householder-in-place-2
 slice-aggregate-make-householder-in-place-2 c = search needs
 
--- src/swap_12.rt:27:9
 make-householder-in-place-requires-2 : tie.Need-make-householder-in-place-requires-2
 make-householder-in-place-requires-2 c κs = search needs
 
--- src/swap_12.rt:32:15
 recip-requires-2 : tie.Need-recip-requires-2
 recip-requires-2 c κs = search needs
 
--- src/swap_12.rt:33:14
 array-read-t22 : tie.Need-array-read-t22
 array-read-t22 c = search needs
 
--- src/swap_12.rt:17:1
 returns : tie.Need-returns
 unfolding reflectors3
 returns c =
