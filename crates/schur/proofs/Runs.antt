@@ -4,7 +4,7 @@ use Prim.Native.Nat.{ℕ, zero, suc, _+_, _-_, _*_, _≤_, _<_}
 use native.Mathlib.Nat.{mul-le-mul, mul-le-mul-left}
 use native.Mathlib.Omega.{arith}
 use mathlib.Core.List.{List}
-use mathlib.Core.Logic.{_⊎_, inl, inr}
+use mathlib.Core.Logic.{_⊎_, inl, inr, ⊎-elim}
 use lib.Dec.{lit≤}
 use lib.ListN.{length}
 use lib.Ieee.{Float}
@@ -63,5 +63,7 @@ cols {n} {x} {k} {p} {t} z h g e =
 
 -- a factor that is there
 pub present : {n : ℕ} {u : List Float} → Beside n u → n ≤ 64 → (length u ≡ 0 → ⊥) → Sized n u
-present (inl e) h k = absurd (k e)
-present (inr e) h k = record { small = h; whole = e }
+present b h k = record { small = h; whole = ⊎-elim (λ e. absurd (k e)) (λ e. e) (b .either) }
+
+pub still : {n : ℕ} {u v : List Float} → Beside n u → length v ≡ length u → Beside n v
+still b e = record { either = ⊎-elim (λ h. inl (e ∙ h)) (λ h. inr (e ∙ h)) (b .either) }

@@ -11,3 +11,9 @@ use Rattle.model.specs.Swaps.{Change}
 pub record Done (n : ℕ) (u t₁ u₁ : List Float) (c : Change) : Type 0 where
   pub form : t₁ ≡ c .form
   pub factor : u₁ ≡ onFactor binary64 n (factorRows n u) (c .operations) u
+
+-- the same with counts of swaps and declines
+pub record Step (n : ℕ) (u t₁ u₁ : List Float) (swaps₁ declined₁ : ℕ) (c : Change) : Type 0 where
+  pub done : Done n u t₁ u₁ c
+  pub swaps : swaps₁ ≡ c .swaps
+  pub declined : declined₁ ≡ c .declined

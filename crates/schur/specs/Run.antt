@@ -18,5 +18,13 @@ pub record Sized (n : ℕ) (t : List Float) : Type 0 where
   pub whole : length t ≡ n * n
 
 -- a factor beside it, or none
-abbrev pub Beside : ℕ → List Float → Type 0
-Beside n u = (length u ≡ 0) ⊎ (length u ≡ n * n)
+pub record Beside (n : ℕ) (u : List Float) : Type 0 where
+  pub either : (length u ≡ 0) ⊎ (length u ≡ n * n)
+
+-- n1 rows from row j on and n2 below them, one or two each
+pub record Rows (n j n1 n2 : ℕ) : Type 0 where
+  pub one1 : 1 ≤ n1
+  pub two1 : n1 ≤ 2
+  pub one2 : 1 ≤ n2
+  pub two2 : n2 ≤ 2
+  pub inside : j + n1 + n2 ≤ n

@@ -1,5 +1,6 @@
 // Reordering a real Schur form.
 mod columns;
+mod exchange;
 mod kernels;
 mod operations;
 mod places;

@@ -1,4 +1,5 @@
 -- `schur::swap_22::schur_swap_22` meets its contract. Assumes nothing.
+use lib.Dec.{lit≤}
 use native.Mathlib.Omega.{arith}
 use Rattle.model.specs.Columns.{onFactor}
 use Rattle.model.specs.Swaps.{swap22, swap22By}
@@ -29,7 +30,7 @@ returns c =
     let b = a .before in
     let d = b .before in
     let e = d .before in
-    rw (← e .window-at .ensures, ← d .solution-of .ensures, ← b .reflectors-4 .ensures, ← a .declines .ensures, c .if1 .taken) (record { form = refl; factor = refl }, refl)
+    rw (← e .window-at .ensures, ← d .solution-of .ensures, ← b .reflectors-4 .ensures, ← a .declines .ensures, c .if1 .taken) (record { form = refl; factor = refl }, refl, lit≤ tt)
 
 form-22-requires : tie.Need-form-22-requires
 form-22-requires c κs = search needs
@@ -64,7 +65,7 @@ returns-2 c =
     let f = e .before in
     let g = f .before in
     let h = g .before in
-    rw (← h .window-at .ensures, ← g .solution-of .ensures, ← f .reflectors-4 .ensures, ← e .declines .ensures, d .if1 .left) (record { form = b .form-22 .ensures; factor = a .reflect4-factor .ensures }, refl)
+    rw (← h .window-at .ensures, ← g .solution-of .ensures, ← f .reflectors-4 .ensures, ← e .declines .ensures, d .if1 .left) (record { form = b .form-22 .ensures; factor = a .reflect4-factor .ensures }, refl, lit≤ tt)
 
 pub schur-swap-22-spec : {M : Type 1} → statement M
 schur-swap-22-spec =
