@@ -1,0 +1,1 @@
+-- The proof that a move's exchanges are dtrexc's.

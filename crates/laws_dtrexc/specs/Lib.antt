@@ -1,0 +1,3 @@
+-- LAPACK's dtrexc, and what is claimed of our moves beside it.
+pub mod Dtrexc
+pub mod Choice
