@@ -1,1 +1,5 @@
 -- The proof that a move's exchanges are dtrexc's.
+pub mod Lists
+pub mod Quiet
+pub mod Kept
+pub mod Seen
