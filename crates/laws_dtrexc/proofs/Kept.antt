@@ -1,12 +1,14 @@
--- What one exchange more keeps, and does not turn on the moved block's row and nbf, every step of a move keeps. Then: the list of exchanges is what was done, and what stood in it up to a decline stays. Assumes nothing.
-use Prim.Native.Nat.{ℕ, zero, suc, _+_, _-_, _<_}
+-- What an exchange more keeps, and a new row for the block, with nbf as it was or 3, every step of a move keeps. So the list of exchanges is what was done, nbf stays 1, 2 or 3, and the list up to a decline stays. Assumes nothing.
+use Prim.Native.Nat.{ℕ, zero, suc, _+_, _-_, _≤_, _<_}
 use native.Mathlib.Nat.{zero-add}
 use native.Mathlib.Omega.{arith}
 use mathlib.Core.Path.{_≡_, refl, sym, ap, _∙_}
-use mathlib.Core.Bool.{Bool, true, false, cond}
+use mathlib.Core.Logic.{_⊎_, inl, inr}
+use mathlib.Core.Bool.{Bool, true, false, _&&_, _||_, cond}
 use mathlib.Core.List.{List, [], _∷_, _++_}
 use lib.Dec.{eqb, ltb}
 use lib.Ieee.{Float, Format}
+use borrow.Author.Tests.{eqb-true, eqb-false, eq-eqb, ne-eqb}
 use Rattle.model.specs.Form.{zeroBelow}
 use Rattle.model.specs.Swaps.{Change, unchanged, andThen}
 use Rattle.model.specs.Exchange.{exchange}
@@ -14,28 +16,32 @@ use Rattle.model.specs.Move.{Exchange, Moving, sizeAt, sizeAbove, exchanging, a
 use Rattle.laws_dtrexc.specs.Choice.{make, made, untilDecline}
 use Rattle.laws_dtrexc.proofs.Lists.{declines, made-append, made-declined, until-over}
 
--- m with the block in another row, or with another nbf
-abbrev pub placed : ℕ → ℕ → Moving → Moving
-placed here nbf m = record { here = here; nbf = nbf; change = m .change; exchanges = m .exchanges }
+-- m with the block in another row, and split or not
+abbrev pub placed : ℕ → Bool → Moving → Moving
+placed row b m = record { here = row; nbf = cond b 3 (m .nbf); change = m .change; exchanges = m .exchanges }
 
-module _ (f : Format) (ld n : ℕ) (P : Moving → Type 0) (more : (j n1 n2 : ℕ) (m : Moving) → P m → P (exchanging f ld n j n1 n2 m)) (put : (here nbf : ℕ) (m : Moving) → P m → P (placed here nbf m)) where
+module _ (f : Format) (ld n : ℕ) (P : Moving → Type 0) (more : (j n1 n2 : ℕ) (m : Moving) → P m → P (exchanging f ld n j n1 n2 m)) (put : (row : ℕ) (b : Bool) (m : Moving) → P m → P (placed row b m)) where
   either : (b : Bool) (x y : Moving) → P x → P y → P (cond b x y)
   either true x y h k = h
   either false x y h k = k
 
   arrive : (row : ℕ) (m : Moving) → P m → P (arrived row m)
   unfolding arrived
-  arrive row m h = put row (m .nbf) m h
+  arrive row m h = put row false m h
+
+  land : (row : ℕ) (m : Moving) → P m → P (landedWhole f ld row m)
+  unfolding landedWhole
+  land row m h = put row (eqb (m .nbf) 2 && zeroBelow f ld (m .change .form) row) m h
 
   down-past : (m : Moving) → P m → P (downPastTwo f ld n m)
   unfolding downPastTwo
   down-past m h = arrive _ _ (either (zeroBelow f ld (m .change .form) (m .here + 1)) _ _ (more _ _ _ _ (more _ _ _ m h)) (more _ _ _ m h))
 
   pub down-step : (m : Moving) → P m → P (downStep f ld n m)
-  unfolding downStep downWhole downApart landedWhole
+  unfolding downStep downWhole downApart
   down-step m h =
       let next = sizeAt f ld n (m .change .form) (m .here + 2) in
-      either (eqb (m .nbf) 3) _ _ (either (eqb next 1) _ _ (arrive _ _ (more _ _ _ _ (more _ _ _ m h))) (down-past _ (more _ _ _ m h))) (put _ _ _ (more _ _ _ m h))
+      either (eqb (m .nbf) 3) _ _ (either (eqb next 1) _ _ (arrive _ _ (more _ _ _ _ (more _ _ _ m h))) (down-past _ (more _ _ _ m h))) (land _ _ (more _ _ _ m h))
 
   pub down-by : (k goal : ℕ) (m : Moving) → P m → P (downBy k f ld n goal m)
   unfolding downBy
@@ -47,15 +53,43 @@ module _ (f : Format) (ld n : ℕ) (P : Moving → Type 0) (more : (j n1 n2 : �
   up-past m h = arrive _ _ (either (zeroBelow f ld (m .change .form) (m .here - 1)) _ _ (more _ _ _ _ (more _ _ _ m h)) (more _ _ _ m h))
 
   pub up-step : (m : Moving) → P m → P (upStep f ld n m)
-  unfolding upStep upWhole upApart landedWhole
+  unfolding upStep upWhole upApart
   up-step m h =
       let next = sizeAbove f ld (m .change .form) (m .here) in
-      either (eqb (m .nbf) 3) _ _ (either (eqb next 1) _ _ (arrive _ _ (more _ _ _ _ (more _ _ _ m h))) (up-past _ (more _ _ _ m h))) (put _ _ _ (more _ _ _ m h))
+      either (eqb (m .nbf) 3) _ _ (either (eqb next 1) _ _ (arrive _ _ (more _ _ _ _ (more _ _ _ m h))) (up-past _ (more _ _ _ m h))) (land _ _ (more _ _ _ m h))
 
   pub up-by : (k goal : ℕ) (m : Moving) → P m → P (upBy k f ld n goal m)
   unfolding upBy
   up-by zero goal m h = h
   up-by (suc k) goal m h = either (ltb goal (m .here)) _ _ (up-by k goal (upStep f ld n m) (up-step m h)) h
+
+-- nbf is 1, 2 or 3
+pub record Nbf (m : Moving) : Type 0 where
+  pub low : 1 ≤ m .nbf
+  pub high : m .nbf ≤ 3
+
+pub nbf-more : (f : Format) (ld n j n1 n2 : ℕ) (m : Moving) → Nbf m → Nbf (exchanging f ld n j n1 n2 m)
+unfolding exchanging
+nbf-more f ld n j n1 n2 m h = record { low = h .low; high = h .high }
+
+pub nbf-put : (row : ℕ) (b : Bool) (m : Moving) → Nbf m → Nbf (placed row b m)
+nbf-put row true m h = record { low = omega arith; high = omega arith }
+nbf-put row false m h = record { low = h .low; high = h .high }
+
+-- and tells whether the block is whole
+pub nbf-kind : (m : Moving) → Nbf m → ((eqb (m .nbf) 3 ≡ true) × ((eqb (m .nbf) 1 || eqb (m .nbf) 2) ≡ false)) ⊎ ((eqb (m .nbf) 3 ≡ false) × ((eqb (m .nbf) 1 || eqb (m .nbf) 2) ≡ true))
+nbf-kind m h = go (eqb (m .nbf) 1) (eqb (m .nbf) 2) refl refl
+  where
+    k : ℕ
+    k = m .nbf
+
+    Kind : Bool → Bool → Type 0
+    Kind a b = ((eqb k 3 ≡ true) × ((a || b) ≡ false)) ⊎ ((eqb k 3 ≡ false) × ((a || b) ≡ true))
+
+    go : (a b : Bool) → eqb k 1 ≡ a → eqb k 2 ≡ b → Kind a b
+    go true b p q = inr (ne-eqb k 3 (λ e. let r = eqb-true k 1 p in omega arith), refl)
+    go false true p q = inr (ne-eqb k 3 (λ e. let r = eqb-true k 2 q in omega arith), refl)
+    go false false p q = inl (eq-eqb k 3 (omega (arith, eqb-false k 1 p, eqb-false k 2 q, h .low, h .high)), refl)
 
 module _ (f : Format) (ld n : ℕ) (t : List Float) where
   -- the list of exchanges is what was done
@@ -81,5 +115,9 @@ module _ (f : Format) (ld n : ℕ) (t : List Float) where
       let c = counted m (o .listed) in
       record { listed = listed-more j n1 n2 m (o .listed); some = omega (arith, o .some); until = until-over f ld n t (m .exchanges) _ (omega (arith, o .some, c)) ∙ o .until }
 
-  pub over-put : (l : List Exchange) (here nbf : ℕ) (m : Moving) → Over l m → Over l (placed here nbf m)
-  over-put l here nbf m o = record { listed = o .listed; some = o .some; until = o .until }
+  pub over-put : (l : List Exchange) (row : ℕ) (b : Bool) (m : Moving) → Over l m → Over l (placed row b m)
+  over-put l row b m o = record { listed = o .listed; some = o .some; until = o .until }
+
+  pub over-land : (l : List Exchange) (row : ℕ) (m : Moving) → Over l m → Over l (landedWhole f ld row m)
+  unfolding landedWhole
+  over-land l row m o = over-put l row (eqb (m .nbf) 2 && zeroBelow f ld (m .change .form) row) m o

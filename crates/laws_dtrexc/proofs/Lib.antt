@@ -3,3 +3,5 @@ pub mod Lists
 pub mod Quiet
 pub mod Kept
 pub mod Seen
+pub mod Agree
+pub mod Down
