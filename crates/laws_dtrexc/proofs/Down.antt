@@ -1,12 +1,11 @@
 -- Going down: a time round label 10 is a step of ours, and the loops agree. Assumes nothing.
 use Prim.Native.Nat.{ℕ, zero, suc, _+_, _-_, _≤_, _<_}
-use native.Mathlib.Numerals.{add-one}
 use native.Mathlib.Omega.{arith}
 use mathlib.Core.Path.{_≡_, refl, sym, ap, _∙_}
 use mathlib.Core.Logic.{_⊎_, inl, inr}
 use mathlib.Core.Bool.{Bool, true, false, _||_, cond}
 use mathlib.Core.List.{List}
-use lib.Dec.{eqb, ltb, leb, leb·suc-suc}
+use lib.Dec.{eqb, ltb, leb}
 use lib.Ieee.{Float, Format}
 use borrow.Author.Tests.{eqb-true, eqb-false, ltb-true, lt-ltb, le-ltb}
 use Rattle.model.specs.Form.{zeroBelow, twoBlock}
@@ -15,7 +14,7 @@ use Rattle.laws_dtrexc.specs.Dtrexc.{Variables, Control, goes, returns, 
 use Rattle.laws_dtrexc.specs.Choice.{ours}
 use Rattle.laws_dtrexc.proofs.Quiet.{quiet-11, quiet-12}
 use Rattle.laws_dtrexc.proofs.Kept.{down-step, down-by, Nbf, nbf-more, nbf-put, nbf-kind, Listed, listed-more, Over, over-more, over-put, over-land}
-use Rattle.laws_dtrexc.proofs.Seen.{seen, dec, calls-on, goes-on, turns-back, zero-at, next-below, row-at, breaks-at}
+use Rattle.laws_dtrexc.proofs.Seen.{seen, dec, calls-on, goes-on, turns-back, zero-at, next-below, row-at, breaks-at, ltb-next}
 use Rattle.laws_dtrexc.proofs.Agree.{Quiet, quiet-more, Same, Stopped, Agrees, over-now}
 
 module _ (f : Format) (ld n : ℕ) (t : List Float) (goal : ℕ) where
@@ -148,9 +147,6 @@ module _ (f : Format) (ld n : ℕ) (t : List Float) (goal : ℕ) where
   unfolding downBy
   stays zero m e = refl
   stays (suc k) m e = rw e
-
-  ltb-next : (a b : ℕ) → ltb (a + 1) (b + 1) ≡ ltb a b
-  ltb-next a b = rw (add-one a, add-one b) (leb·suc-suc (suc a) b)
 
   -- after a time round: to the label, or there
   after : (k : ℕ) (m : Moving) → (ltb (m .here) goal ≡ true → Agrees f ld n t goal (label10 (ours f ld n) n k (seen 0 goal m)) (downBy k f ld n goal m)) → Quiet m

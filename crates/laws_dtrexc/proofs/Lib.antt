@@ -5,3 +5,4 @@ pub mod Kept
 pub mod Seen
 pub mod Agree
 pub mod Down
+pub mod Up

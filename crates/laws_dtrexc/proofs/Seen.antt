@@ -26,6 +26,10 @@ guard : (a b x y : Bool) → a ≡ b → (b ≡ true → x ≡ y) → (a && x) �
 guard a true x y e h = rw e (h refl)
 guard a false x y e h = rw e
 
+-- a test of two rows, each counted from 1
+pub ltb-next : (a b : ℕ) → ltb (a + 1) (b + 1) ≡ ltb a b
+ltb-next a b = rw (add-one a, add-one b) (leb·suc-suc (suc a) b)
+
 -- the guard of a row above
 guard-above : (k p : ℕ) → leb (suc k) (p + 1) ≡ leb k p
 guard-above k p = rw (add-one p) (leb·suc-suc k p)
