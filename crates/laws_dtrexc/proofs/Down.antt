@@ -164,6 +164,7 @@ module _ (f : Format) (ld n : ℕ) (t : List Float) (goal : ℕ) where
       let s = downStep f ld n m in
       let h₂ = down-step f ld n (Listed f ld n t) (listed-more f ld n t) (λ row b x o. o) m h in
       let j₂ = down-step f ld n Nbf (nbf-more f ld n) nbf-put m j in
-      rw l (elim (once m h j q)
-      [ inl a ↦ rw (a .is) (after k s (λ e. loop k s h₂ j₂ (a .quiet) e) (a .quiet))
-      | inr a ↦ rw (a .is) (inr (record { w = a .w; is = refl; info = a .info; l = a .l; calls = a .calls; over = down-by f ld n (Over f ld n t (a .l)) (over-more f ld n t (a .l)) (over-put f ld n t (a .l)) k goal s (a .over) })) ])
+      rw l (elim (once m h j q) [
+        | inl a ↦ rw (a .is) (after k s (λ e. loop k s h₂ j₂ (a .quiet) e) (a .quiet))
+        | inr a ↦ rw (a .is) (inr (record { w = a .w; is = refl; info = a .info; l = a .l; calls = a .calls; over = down-by f ld n (Over f ld n t (a .l)) (over-more f ld n t (a .l)) (over-put f ld n t (a .l)) k goal s (a .over) }))
+      ])

@@ -6,3 +6,4 @@ pub mod Seen
 pub mod Agree
 pub mod Down
 pub mod Up
+pub mod Choice
