@@ -7,3 +7,4 @@ pub mod Agree
 pub mod Down
 pub mod Up
 pub mod Choice
+pub mod Rounds
