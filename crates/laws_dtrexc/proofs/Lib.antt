@@ -8,3 +8,4 @@ pub mod Down
 pub mod Up
 pub mod Choice
 pub mod Rounds
+pub mod Arrives

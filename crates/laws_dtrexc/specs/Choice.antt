@@ -10,7 +10,7 @@ use Rattle.model.specs.Arith.{zeroOf}
 use Rattle.model.specs.Form.{entry}
 use Rattle.model.specs.Swaps.{Change, unchanged, andThen}
 use Rattle.model.specs.Exchange.{exchange}
-use Rattle.model.specs.Move.{Exchange, Moving, move}
+use Rattle.model.specs.Move.{Exchange, Moving, firstRow, sizeAt, goalDown, move}
 use Rattle.laws_dtrexc.specs.Dtrexc.{Exchanged, Routines, Call, Returned, dtrexcBy, dtrexc}
 
 -- ---- dtrexc over our exchange and our test against zero. LAPACK's row and column I and J are ours I - 1 and J - 1; INFO is how many of the exchange's swaps declined
@@ -71,6 +71,15 @@ pub record SameChoice (f : Format) (ld n : ℕ) (t : List Float) (m : Moving) (v
 -- for every format, stride and form, whatever stands in it
 abbrev pub DtrexcChoice : Type 0
 DtrexcChoice = (f : Format) (ld n from to : ℕ) (t : List Float) → from < n → to < n → SameChoice f ld n t (move f ld n from to t) (lapack f ld n from to t)
+
+-- Our move, at most n steps by its definition, arrives: going down it reaches its goal, and going up the row of the block to which it goes
+abbrev pub MoveArrives : Type 0
+MoveArrives =
+    (f : Format) (ld n from to : ℕ) (t : List Float) → from < n → to < n
+    → (let a = firstRow f ld t from in
+      let b = firstRow f ld t to in
+      let here = move f ld n from to t .here in
+      (a < b → goalDown (sizeAt f ld n t a) (sizeAt f ld n t b) b ≤ here) × (b ≤ a → here ≤ b))
 
 -- For any form and whatever DLAEXC does, dtrexc's loops go at most N times round: to allow more changes nothing
 abbrev pub RoundsSuffice : Type 1
