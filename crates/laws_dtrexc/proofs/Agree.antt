@@ -1,20 +1,16 @@
 -- How dtrexc and a move stand to each other on the way: nothing has declined and they are the same, or one has declined, dtrexc has returned, and its calls are ours up to there. Assumes nothing.
-use Prim.Native.Nat.{ℕ, zero, suc, _+_, _≤_, _<_}
+use Prim.Native.Nat.{ℕ, _<_}
 use native.Mathlib.Omega.{arith}
-use mathlib.Core.Path.{_≡_, refl, sym, ap, _∙_}
-use mathlib.Core.Logic.{_⊎_, inl, inr}
-use mathlib.Core.Bool.{Bool, true, false}
-use mathlib.Core.List.{List, [], _∷_, _++_, map}
-use lib.Dec.{eqb}
+use mathlib.Core.Path.{_≡_, sym, _∙_}
+use mathlib.Core.Logic.{_⊎_}
+use mathlib.Core.List.{List, map}
 use lib.Ieee.{Float, Format}
-use borrow.Author.Tests.{eqb-true, eqb-false}
-use Rattle.model.specs.Swaps.{Change, andThen}
-use Rattle.model.specs.Exchange.{exchange}
+use Rattle.model.specs.Swaps.{andThen}
 use Rattle.model.specs.Move.{Exchange, Moving, exchanging}
-use Rattle.laws_dtrexc.specs.Dtrexc.{Variables, Control, goes, returns, ilstHere}
-use Rattle.laws_dtrexc.specs.Choice.{asCall, untilDecline}
+use Rattle.laws_dtrexc.specs.Dtrexc.{Variables, Control, goes, returns}
+use Rattle.laws_dtrexc.specs.Choice.{asCall}
 use Rattle.laws_dtrexc.proofs.Lists.{until-more}
-use Rattle.laws_dtrexc.proofs.Kept.{placed, Listed, listed-more, counted, Over}
+use Rattle.laws_dtrexc.proofs.Kept.{Listed, listed-more, counted, Over}
 use Rattle.laws_dtrexc.proofs.Seen.{seen, dec}
 
 -- nothing has declined

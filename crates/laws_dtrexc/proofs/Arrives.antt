@@ -2,14 +2,12 @@
 use Prim.Native.Nat.{ℕ, zero, suc, _+_, _-_, _≤_, _<_}
 use native.Mathlib.Decide.{decLt, ℕ-discrete}
 use native.Mathlib.Omega.{arith}
-use mathlib.Core.Path.{_≡_, refl}
 use mathlib.Core.Bool.{Bool, true, false, _&&_, cond}
-use mathlib.Core.List.{List, []}
+use mathlib.Core.List.{List}
 use lib.Dec.{eqb, ltb, leb}
 use lib.Ieee.{Float, Format}
-use borrow.Author.Tests.{ltb-true, leb-true, lt-ltb, le-ltb, eq-eqb, ne-eqb}
-use Rattle.model.specs.Form.{zeroBelow, nonzeroBelow, twoBlock}
-use Rattle.model.specs.Swaps.{unchanged}
+use borrow.Author.Tests.{lt-ltb, le-ltb, eq-eqb, ne-eqb}
+use Rattle.model.specs.Form.{nonzeroBelow, twoBlock}
 use Rattle.model.specs.Move.{Moving, firstRow, sizeAt, sizeAbove, exchanging, arrived, landedWhole, downWhole, downPastTwo, downApart, downStep, downBy, upWhole, upPastTwo, upApart, upStep, upBy, goalDown, moveFrom, move}
 use Rattle.laws_dtrexc.specs.Choice.{MoveArrives}
 
@@ -77,6 +75,7 @@ move-arrives f ld n from to t l k =
     let b = firstRow f ld t to in
     let p = first-le f ld n t from in
     let q = first-le f ld n t to in
-    let g = goal-le f ld n t a b in
-    (λ h. rw (ne-eqb a b (omega arith), lt-ltb a b h) (down-arrives f ld n n _ _ (omega arith)),
-     λ h. elim (ℕ-discrete a b) [ yes e ↦ rw (eq-eqb a b e) (omega arith) | no e ↦ rw (ne-eqb a b e, le-ltb a b h) (up-arrives f ld n n b _ (omega arith)) ])
+    let g = goal-le f ld n t a b in (
+      λ h. rw (ne-eqb a b (omega arith), lt-ltb a b h) (down-arrives f ld n n _ _ (omega arith)),
+      λ h. elim (ℕ-discrete a b) [ yes e ↦ rw (eq-eqb a b e) (omega arith) | no e ↦ rw (ne-eqb a b e, le-ltb a b h) (up-arrives f ld n n b _ (omega arith)) ],
+    )

@@ -1,22 +1,22 @@
 -- The claim: a move's exchanges are dtrexc's, up to the first that declines. Assumes nothing.
-use Prim.Native.Nat.{ℕ, zero, suc, _+_, _-_, _≤_, _<_}
+use Prim.Native.Nat.{ℕ, _+_, _-_, _<_}
 use native.Mathlib.Numerals.{add-one}
 use native.Mathlib.Decide.{decLt, ℕ-discrete}
 use native.Mathlib.Omega.{arith}
 use mathlib.Core.Path.{_≡_, refl, sym, ap, _∙_}
-use mathlib.Core.Logic.{_⊎_, inl, inr}
+use mathlib.Core.Logic.{inl, inr}
 use mathlib.Core.Bool.{Bool, true, false, _&&_, cond, false≢true}
-use mathlib.Core.List.{List, [], _∷_, _++_, map, append-nil, map-append}
+use mathlib.Core.List.{List, [], _++_, map, append-nil, map-append}
 use lib.Dec.{eqb, ltb, leb, eqb·suc-suc}
 use lib.Ieee.{Float, Format}
-use borrow.Author.Tests.{eqb-true, eqb-false, ltb-true, ltb-false, leb-true, lt-ltb, le-ltb, eq-eqb, ne-eqb}
+use borrow.Author.Tests.{ltb-true, ltb-false, leb-true, lt-ltb, le-ltb, eq-eqb, ne-eqb}
 use Rattle.model.specs.Form.{nonzeroBelow, twoBlock}
-use Rattle.model.specs.Swaps.{Change, unchanged}
-use Rattle.model.specs.Move.{Exchange, Moving, firstRow, sizeAt, downBy, upBy, goalDown, moveFrom, move}
-use Rattle.laws_dtrexc.specs.Dtrexc.{Variables, Control, goes, returns, Call, Returned, returned, updated, label10, label20, dtrexcBy, dtrexc}
+use Rattle.model.specs.Swaps.{unchanged}
+use Rattle.model.specs.Move.{Moving, firstRow, sizeAt, downBy, upBy, goalDown, moveFrom, move}
+use Rattle.laws_dtrexc.specs.Dtrexc.{Control, goes, Call, Returned, returned, updated, label10, label20, dtrexcBy, dtrexc}
 use Rattle.laws_dtrexc.specs.Choice.{ours, lapack, asCall, untilDecline, SameChoice, DtrexcChoice}
 use Rattle.laws_dtrexc.proofs.Lists.{until-all, until-begins}
-use Rattle.laws_dtrexc.proofs.Kept.{down-by, up-by, Nbf, Listed, listed-more, counted, Over}
+use Rattle.laws_dtrexc.proofs.Kept.{down-by, up-by, Nbf, Listed, listed-more, counted}
 use Rattle.laws_dtrexc.proofs.Seen.{seen, ltb-next, first-of, size-of}
 use Rattle.laws_dtrexc.proofs.Agree.{Same, Stopped, Agrees}
 use Rattle.laws_dtrexc.proofs.Down

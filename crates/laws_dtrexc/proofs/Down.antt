@@ -1,16 +1,16 @@
 -- Going down: a time round label 10 is a step of ours, and the loops agree. Assumes nothing.
-use Prim.Native.Nat.{ℕ, zero, suc, _+_, _-_, _≤_, _<_}
+use Prim.Native.Nat.{ℕ, zero, suc, _+_, _<_}
 use native.Mathlib.Omega.{arith}
-use mathlib.Core.Path.{_≡_, refl, sym, ap, _∙_}
-use mathlib.Core.Logic.{_⊎_, inl, inr}
+use mathlib.Core.Path.{_≡_, refl, ap, _∙_}
+use mathlib.Core.Logic.{inl, inr}
 use mathlib.Core.Bool.{Bool, true, false, _||_, cond}
 use mathlib.Core.List.{List}
-use lib.Dec.{eqb, ltb, leb}
+use lib.Dec.{eqb, ltb}
 use lib.Ieee.{Float, Format}
-use borrow.Author.Tests.{eqb-true, eqb-false, ltb-true, lt-ltb, le-ltb}
+use borrow.Author.Tests.{eqb-true, eqb-false}
 use Rattle.model.specs.Form.{zeroBelow, twoBlock}
-use Rattle.model.specs.Move.{Exchange, Moving, sizeAt, exchanging, arrived, landedWhole, downWhole, downPastTwo, downApart, downStep, downBy}
-use Rattle.laws_dtrexc.specs.Dtrexc.{Variables, Control, goes, returns, _>>=_, callOrReturn, ilstHere, toRow, breaks, below, below3Past2, below3, label10}
+use Rattle.model.specs.Move.{Moving, sizeAt, exchanging, arrived, landedWhole, downWhole, downPastTwo, downApart, downStep, downBy}
+use Rattle.laws_dtrexc.specs.Dtrexc.{Variables, Control, goes, _>>=_, callOrReturn, ilstHere, toRow, breaks, below, below3Past2, below3, label10}
 use Rattle.laws_dtrexc.specs.Choice.{ours}
 use Rattle.laws_dtrexc.proofs.Quiet.{quiet-11, quiet-12}
 use Rattle.laws_dtrexc.proofs.Kept.{down-step, down-by, Nbf, nbf-more, nbf-put, nbf-kind, Listed, listed-more, Over, over-more, over-put, over-land}

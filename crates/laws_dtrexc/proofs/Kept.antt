@@ -5,7 +5,7 @@ use native.Mathlib.Omega.{arith}
 use mathlib.Core.Path.{_≡_, refl, sym, ap, _∙_}
 use mathlib.Core.Logic.{_⊎_, inl, inr}
 use mathlib.Core.Bool.{Bool, true, false, _&&_, _||_, cond}
-use mathlib.Core.List.{List, [], _∷_, _++_}
+use mathlib.Core.List.{List, [], _∷_}
 use lib.Dec.{eqb, ltb}
 use lib.Ieee.{Float, Format}
 use borrow.Author.Tests.{eqb-true, eqb-false, eq-eqb, ne-eqb}
@@ -13,7 +13,7 @@ use Rattle.model.specs.Form.{zeroBelow}
 use Rattle.model.specs.Swaps.{Change, unchanged, andThen}
 use Rattle.model.specs.Exchange.{exchange}
 use Rattle.model.specs.Move.{Exchange, Moving, sizeAt, sizeAbove, exchanging, arrived, landedWhole, downWhole, downPastTwo, downApart, downStep, downBy, upWhole, upPastTwo, upApart, upStep, upBy}
-use Rattle.laws_dtrexc.specs.Choice.{make, made, untilDecline}
+use Rattle.laws_dtrexc.specs.Choice.{made, untilDecline}
 use Rattle.laws_dtrexc.proofs.Lists.{declines, made-append, made-declined, until-over}
 
 -- m with the block in another row, and split or not

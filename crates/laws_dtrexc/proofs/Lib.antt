@@ -9,3 +9,4 @@ pub mod Up
 pub mod Choice
 pub mod Rounds
 pub mod Arrives
+pub mod Recorded

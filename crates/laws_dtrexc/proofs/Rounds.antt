@@ -2,12 +2,12 @@
 use Prim.Native.Nat.{ℕ, zero, suc, _+_, _-_, _≤_, _<_}
 use native.Mathlib.Nat.{add-zero, add-suc}
 use native.Mathlib.Omega.{arith}
-use mathlib.Core.Path.{_≡_, refl, sym, ap, _∙_}
+use mathlib.Core.Path.{_≡_, refl, ap, _∙_}
 use mathlib.Core.Bool.{Bool, true, false, _&&_, _||_, cond}
 use mathlib.Core.List.{[]}
 use lib.Dec.{eqb, ltb, leb}
 use borrow.Author.Tests.{ltb-true}
-use Rattle.laws_dtrexc.specs.Dtrexc.{Routines, Variables, Control, goes, returns, _>>=_, NE, call, ilstHere, toRow, callOrReturn, breaks, below, below3Past2, below3, label10, above, above3Past2, above3, label20, updated, firstOf, sizeOf, dtrexcBy, dtrexc}
+use Rattle.laws_dtrexc.specs.Dtrexc.{Routines, Variables, Control, goes, returns, _>>=_, NE, call, toRow, callOrReturn, breaks, below, below3Past2, below3, label10, above, above3Past2, above3, label20, updated, firstOf, sizeOf, dtrexcBy, dtrexc}
 use Rattle.laws_dtrexc.specs.Choice.{RoundsSuffice}
 
 -- NBNEXT is 1 or 2

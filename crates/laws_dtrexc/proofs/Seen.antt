@@ -1,20 +1,19 @@
 -- A move on its way, seen as dtrexc's variables: a call of DLAEXC is one exchange more, and the tests against zero are ours. Assumes nothing.
-use Prim.Native.Nat.{ℕ, zero, suc, _+_, _-_, _≤_, _<_}
+use Prim.Native.Nat.{ℕ, suc, _+_, _-_, _<_}
 use native.Mathlib.Nat.{add-sub-cancel}
 use native.Mathlib.Numerals.{add-one}
 use native.Mathlib.Omega.{arith}
-use mathlib.Core.Path.{_≡_, refl, sym, ap, _∙_}
-use mathlib.Core.Bool.{Bool, true, false, not, _&&_, cond}
-use mathlib.Core.List.{List, [], _∷_, _++_, map, map-append}
+use mathlib.Core.Path.{_≡_, refl, ap, _∙_}
+use mathlib.Core.Bool.{Bool, true, false, _&&_, cond}
+use mathlib.Core.List.{List, map, map-append}
 use lib.Dec.{eqb, ltb, leb, leb·suc-suc}
-use lib.Ieee.{Float, Format, eq, ne}
+use lib.Ieee.{Float, Format, ne}
 use borrow.Author.Tests.{ltb-true, leb-true}
-use Rattle.model.specs.Arith.{zeroOf}
-use Rattle.model.specs.Form.{entry, zeroBelow, nonzeroBelow, twoBlock}
-use Rattle.model.specs.Swaps.{Change, andThen}
+use Rattle.model.specs.Form.{zeroBelow, nonzeroBelow, twoBlock}
+use Rattle.model.specs.Swaps.{andThen}
 use Rattle.model.specs.Exchange.{exchange}
-use Rattle.model.specs.Move.{Exchange, Moving, sizeAt, sizeAbove, firstRow, exchanging, arrived, landedWhole}
-use Rattle.laws_dtrexc.specs.Dtrexc.{Variables, Control, goes, returns, NE, call, callOrReturn, ilstHere, toRow, breaks, firstOf, sizeOf}
+use Rattle.model.specs.Move.{Moving, sizeAt, sizeAbove, firstRow, exchanging, arrived, landedWhole}
+use Rattle.laws_dtrexc.specs.Dtrexc.{Variables, goes, returns, NE, call, callOrReturn, ilstHere, toRow, breaks, firstOf, sizeOf}
 use Rattle.laws_dtrexc.specs.Choice.{zeroAt, exchangeAt, ours, asCall}
 
 -- m on its way to a goal, with INFO

@@ -1,7 +1,7 @@
 -- Going up: a time round label 20 is a step of ours, and the loops agree. Assumes nothing.
 use Prim.Native.Nat.{ℕ, zero, suc, _+_, _-_, _≤_, _<_}
 use native.Mathlib.Omega.{arith}
-use mathlib.Core.Path.{_≡_, refl, sym, ap, _∙_}
+use mathlib.Core.Path.{_≡_, refl, ap, _∙_}
 use mathlib.Core.Logic.{_⊎_, inl, inr}
 use mathlib.Core.Bool.{Bool, true, false, _&&_, _||_, cond}
 use mathlib.Core.List.{List}
@@ -9,8 +9,8 @@ use lib.Dec.{eqb, ltb, leb}
 use lib.Ieee.{Float, Format}
 use borrow.Author.Tests.{eqb-true, eqb-false, ltb-true, leb-true}
 use Rattle.model.specs.Form.{zeroBelow, nonzeroBelow}
-use Rattle.model.specs.Move.{Exchange, Moving, sizeAbove, exchanging, arrived, landedWhole, upWhole, upPastTwo, upApart, upStep, upBy}
-use Rattle.laws_dtrexc.specs.Dtrexc.{Variables, Control, goes, returns, _>>=_, callOrReturn, ilstHere, toRow, breaks, above, above3Past2, above3, label20}
+use Rattle.model.specs.Move.{Moving, sizeAbove, exchanging, arrived, landedWhole, upWhole, upPastTwo, upApart, upStep, upBy}
+use Rattle.laws_dtrexc.specs.Dtrexc.{Variables, Control, goes, _>>=_, callOrReturn, ilstHere, toRow, breaks, above, above3Past2, above3, label20}
 use Rattle.laws_dtrexc.specs.Choice.{ours}
 use Rattle.laws_dtrexc.proofs.Quiet.{quiet-11, quiet-21}
 use Rattle.laws_dtrexc.proofs.Kept.{up-step, up-by, Nbf, nbf-more, nbf-put, nbf-kind, Listed, listed-more, Over, over-more, over-put, over-land}

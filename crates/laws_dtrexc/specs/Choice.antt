@@ -77,9 +77,9 @@ abbrev pub MoveArrives : Type 0
 MoveArrives =
     (f : Format) (ld n from to : ℕ) (t : List Float) → from < n → to < n
     → (let a = firstRow f ld t from in
-      let b = firstRow f ld t to in
-      let here = move f ld n from to t .here in
-      (a < b → goalDown (sizeAt f ld n t a) (sizeAt f ld n t b) b ≤ here) × (b ≤ a → here ≤ b))
+    let b = firstRow f ld t to in
+    let here = move f ld n from to t .here in
+    (a < b → goalDown (sizeAt f ld n t a) (sizeAt f ld n t b) b ≤ here) × (b ≤ a → here ≤ b))
 
 -- For any form and whatever DLAEXC does, dtrexc's loops go at most N times round: to allow more changes nothing
 abbrev pub RoundsSuffice : Type 1
