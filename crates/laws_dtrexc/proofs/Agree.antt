@@ -5,10 +5,10 @@ use mathlib.Core.Path.{_≡_, sym, _∙_}
 use mathlib.Core.Logic.{_⊎_}
 use mathlib.Core.List.{List, map}
 use lib.Ieee.{Float, Format}
-use Rattle.model.specs.Swaps.{andThen}
+use Rattle.model.specs.Swaps.{unchanged, andThen}
 use Rattle.model.specs.Move.{Exchange, Moving, exchanging}
 use Rattle.laws_dtrexc.specs.Dtrexc.{Variables, Control, goes, returns}
-use Rattle.laws_dtrexc.specs.Choice.{asCall}
+use Rattle.laws_dtrexc.specs.Choice.{asCall, made}
 use Rattle.laws_dtrexc.proofs.Lists.{until-more}
 use Rattle.laws_dtrexc.proofs.Kept.{Listed, listed-more, counted, Over}
 use Rattle.laws_dtrexc.proofs.Seen.{seen, dec}
@@ -35,6 +35,7 @@ module _ (f : Format) (ld n : ℕ) (t : List Float) where
     pub info : 0 < w .INFO
     pub l : List Exchange
     pub calls : w .calls ≡ map asCall l
+    pub form : w .T ≡ made f ld n (unchanged t) l .form
     pub over : Over f ld n t l m
 
   abbrev pub Agrees : ℕ → Control (List Float) → Moving → Type 0

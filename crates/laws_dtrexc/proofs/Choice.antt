@@ -11,10 +11,10 @@ use lib.Dec.{eqb, ltb, leb, eqb·suc-suc}
 use lib.Ieee.{Float, Format}
 use borrow.Author.Tests.{ltb-true, ltb-false, leb-true, lt-ltb, le-ltb, eq-eqb, ne-eqb}
 use Rattle.model.specs.Form.{nonzeroBelow, twoBlock}
-use Rattle.model.specs.Swaps.{unchanged}
-use Rattle.model.specs.Move.{Moving, firstRow, sizeAt, downBy, upBy, goalDown, moveFrom, move}
+use Rattle.model.specs.Swaps.{Change, unchanged}
+use Rattle.model.specs.Move.{Exchange, Moving, firstRow, sizeAt, downBy, upBy, goalDown, moveFrom, move}
 use Rattle.laws_dtrexc.specs.Dtrexc.{Control, goes, Call, Returned, returned, updated, label10, label20, dtrexcBy, dtrexc}
-use Rattle.laws_dtrexc.specs.Choice.{ours, lapack, asCall, untilDecline, SameChoice, DtrexcChoice}
+use Rattle.laws_dtrexc.specs.Choice.{ours, lapack, asCall, made, untilDecline, SameChoice, DtrexcChoice}
 use Rattle.laws_dtrexc.proofs.Lists.{until-all, until-begins}
 use Rattle.laws_dtrexc.proofs.Kept.{down-by, up-by, Nbf, Listed, listed-more, counted}
 use Rattle.laws_dtrexc.proofs.Seen.{seen, ltb-next, first-of, size-of}
@@ -32,6 +32,7 @@ module _ (f : Format) (ld n : ℕ) (t : List Float) (goal : ℕ) where
       (record {
         done = h;
         calls = ap (map asCall) (sym (until-all f ld n t (m .exchanges) (sym (counted f ld n t m h) ∙ a .quiet)));
+        formThen = ap (λ (c : Change). c .form) (h ∙ ap (made f ld n (unchanged t)) (sym (until-all f ld n t (m .exchanges) (sym (counted f ld n t m h) ∙ a .quiet))));
         beginning = ([], sym (append-nil _));
         whole = λ _. refl;
         landed = λ _. refl;
@@ -51,6 +52,7 @@ module _ (f : Format) (ld n : ℕ) (t : List Float) (goal : ℕ) where
       (record {
         done = o .listed;
         calls = u;
+        formThen = a .form ∙ ap (λ (l : List Exchange). made f ld n (unchanged t) l .form) (sym (o .until));
         beginning = (map asCall (b .0), ap (map asCall) (b .1) ∙ map-append asCall (untilDecline f ld n t (m .exchanges)) (b .0) ∙ ap (λ (l : List Call). l ++ map asCall (b .0)) (sym u));
         whole = λ e. absurd (omega arith);
         landed = λ e. absurd (omega arith);
@@ -72,7 +74,7 @@ module _ (f : Format) (ld n : ℕ) (t : List Float) where
   start a = record { here = a; nbf = sizeAt f ld n t a; change = unchanged t; exchanges = [] }
 
   start-listed : (a : ℕ) → Listed f ld n t (start a)
-  unfolding Rattle.laws_dtrexc.specs.Choice.made
+  unfolding made
   start-listed a = refl
 
   start-nbf : (a : ℕ) → Nbf (start a)

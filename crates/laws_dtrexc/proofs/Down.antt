@@ -9,6 +9,7 @@ use lib.Dec.{eqb, ltb}
 use lib.Ieee.{Float, Format}
 use borrow.Author.Tests.{eqb-true, eqb-false}
 use Rattle.model.specs.Form.{zeroBelow, twoBlock}
+use Rattle.model.specs.Swaps.{Change}
 use Rattle.model.specs.Move.{Moving, sizeAt, exchanging, arrived, landedWhole, downWhole, downPastTwo, downApart, downStep, downBy}
 use Rattle.laws_dtrexc.specs.Dtrexc.{Variables, Control, goes, _>>=_, callOrReturn, ilstHere, toRow, breaks, below, below3Past2, below3, label10}
 use Rattle.laws_dtrexc.specs.Choice.{ours}
@@ -52,6 +53,7 @@ module _ (f : Format) (ld n : ℕ) (t : List Float) (goal : ℕ) where
         info = d;
         l = exchanging f ld n (m .here) (m .nbf) k m .exchanges;
         calls = refl;
+        form = ap (λ (c : Change). c .form) (listed-more f ld n t (m .here) (m .nbf) k m h);
         over = over-land f ld n t _ _ _ (over-now f ld n t (m .here) (m .nbf) k m h q d);
       }
 
@@ -166,5 +168,5 @@ module _ (f : Format) (ld n : ℕ) (t : List Float) (goal : ℕ) where
       let j₂ = down-step f ld n Nbf (nbf-more f ld n) nbf-put m j in
       rw l (elim (once m h j q) [
         | inl a ↦ rw (a .is) (after k s (λ e. loop k s h₂ j₂ (a .quiet) e) (a .quiet))
-        | inr a ↦ rw (a .is) (inr (record { w = a .w; is = refl; info = a .info; l = a .l; calls = a .calls; over = down-by f ld n (Over f ld n t (a .l)) (over-more f ld n t (a .l)) (over-put f ld n t (a .l)) k goal s (a .over) }))
+        | inr a ↦ rw (a .is) (inr (record { w = a .w; is = refl; info = a .info; l = a .l; calls = a .calls; form = a .form; over = down-by f ld n (Over f ld n t (a .l)) (over-more f ld n t (a .l)) (over-put f ld n t (a .l)) k goal s (a .over) }))
       ])

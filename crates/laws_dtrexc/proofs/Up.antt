@@ -9,6 +9,7 @@ use lib.Dec.{eqb, ltb, leb}
 use lib.Ieee.{Float, Format}
 use borrow.Author.Tests.{eqb-true, eqb-false, ltb-true, leb-true}
 use Rattle.model.specs.Form.{zeroBelow, nonzeroBelow}
+use Rattle.model.specs.Swaps.{Change}
 use Rattle.model.specs.Move.{Moving, sizeAbove, exchanging, arrived, landedWhole, upWhole, upPastTwo, upApart, upStep, upBy}
 use Rattle.laws_dtrexc.specs.Dtrexc.{Variables, Control, goes, _>>=_, callOrReturn, ilstHere, toRow, breaks, above, above3Past2, above3, label20}
 use Rattle.laws_dtrexc.specs.Choice.{ours}
@@ -67,6 +68,7 @@ module _ (f : Format) (ld n : ℕ) (t : List Float) (goal : ℕ) where
         info = d;
         l = exchanging f ld n (m .here - k) k (m .nbf) m .exchanges;
         calls = refl;
+        form = ap (λ (c : Change). c .form) (listed-more f ld n t (m .here - k) k (m .nbf) m h);
         over = over-land f ld n t _ _ _ (over-now f ld n t (m .here - k) k (m .nbf) m h q d);
       }
 
@@ -174,5 +176,5 @@ module _ (f : Format) (ld n : ℕ) (t : List Float) (goal : ℕ) where
       let p = ltb-true goal (m .here) l in
       rw l (elim (once m h j q (omega arith)) [
         | inl a ↦ rw (a .is) (after k s (λ e. loop k s h₂ j₂ (a .quiet) e) (a .quiet))
-        | inr a ↦ rw (a .is) (inr (record { w = a .w; is = refl; info = a .info; l = a .l; calls = a .calls; over = up-by f ld n (Over f ld n t (a .l)) (over-more f ld n t (a .l)) (over-put f ld n t (a .l)) k goal s (a .over) }))
+        | inr a ↦ rw (a .is) (inr (record { w = a .w; is = refl; info = a .info; l = a .l; calls = a .calls; form = a .form; over = up-by f ld n (Over f ld n t (a .l)) (over-more f ld n t (a .l)) (over-put f ld n t (a .l)) k goal s (a .over) }))
       ])

@@ -59,6 +59,8 @@ pub record SameChoice (f : Format) (ld n : ℕ) (t : List Float) (m : Moving) (v
   pub done : m .change ≡ made f ld n (unchanged t) (m .exchanges)
   -- dtrexc's calls are ours, up to the first that declines
   pub calls : v .calls ≡ map asCall (untilDecline f ld n t (m .exchanges))
+  -- each at the same form: dtrexc hands back the form as those exchanges of ours leave it
+  pub formThen : v .T ≡ made f ld n (unchanged t) (untilDecline f ld n t (m .exchanges)) .form
   -- so they are the beginning of ours
   pub beginning : (rest : List Call) × (map asCall (m .exchanges) ≡ v .calls ++ rest)
   -- and, where nothing declined, all of ours, with the same place and form at the end

@@ -109,7 +109,9 @@ module _ {Form : Type 0} (r : Routines Form) (N : ℕ) where
       (do
         w ← callOrReturn r (v .HERE) 1 NBNEXT v
         goes (toRow (w .HERE + 2) w))
-      (let w = call r (v .HERE + 1) 1 1 (call r (v .HERE) 1 1 v) in goes (toRow (w .HERE + 2) w))
+      (let w = call r (v .HERE) 1 1 v in
+      let x = call r (w .HERE + 1) 1 1 w in
+      goes (toRow (x .HERE + 2) x))
 
   -- current block consists of two 1 by 1 blocks, each of which must be swapped individually
   unfoldable pub below3 : Variables Form → Control Form
@@ -119,7 +121,7 @@ module _ {Form : Type 0} (r : Routines Form) (N : ℕ) where
         w ← callOrReturn r (v .HERE + 1) 1 NBNEXT v
         cond (eqb NBNEXT 1) (let x = call r (w .HERE) 1 NBNEXT w in goes (toRow (x .HERE + 1) x)) (below3Past2 w)
 
-  -- the loop, to IF( HERE.LT.ILST ) GO TO 10, at most so many times round
+  -- IF( NBF.EQ.1 .OR. NBF.EQ.2 ) .., to IF( HERE.LT.ILST ) GO TO 10, at most so many times round
   unfoldable pub label10 : ℕ → Variables Form → Control Form
   label10 zero v = goes v
   label10 (suc k) v = do
@@ -129,6 +131,7 @@ module _ {Form : Type 0} (r : Routines Form) (N : ℕ) where
 -- ---- label 20: swap block with next one above
 
 module _ {Form : Type 0} (r : Routines Form) where
+  -- current block either 1 by 1 or 2 by 2
   unfoldable pub above : Variables Form → Control Form
   above v =
       let NBNEXT : ℕ = cond (leb 3 (v .HERE) && NE r (v .T) (v .HERE - 1) (v .HERE - 2)) 2 1 in
@@ -136,6 +139,7 @@ module _ {Form : Type 0} (r : Routines Form) where
         w ← callOrReturn r (v .HERE - NBNEXT) NBNEXT (v .NBF) v
         goes (breaks r (toRow (w .HERE - NBNEXT) w))
 
+  -- two 1 by 1 blocks, of which the upper has passed a 2 by 2 block: recompute NBNEXT in case 2 by 2 split
   unfoldable pub above3Past2 : Variables Form → Control Form
   above3Past2 v =
       let NBNEXT : ℕ = cond (r .zero (v .T) (v .HERE) (v .HERE - 1)) 1 2 in
@@ -143,8 +147,11 @@ module _ {Form : Type 0} (r : Routines Form) where
       (do
         w ← callOrReturn r (v .HERE - 1) 2 1 v
         goes (toRow (w .HERE - 2) w))
-      (let w = call r (v .HERE - 1) 1 1 (call r (v .HERE) 1 1 v) in goes (toRow (w .HERE - 2) w))
+      (let w = call r (v .HERE) 1 1 v in
+      let x = call r (w .HERE - 1) 1 1 w in
+      goes (toRow (x .HERE - 2) x))
 
+  -- current block consists of two 1 by 1 blocks, each of which must be swapped individually
   unfoldable pub above3 : Variables Form → Control Form
   above3 v =
       let NBNEXT : ℕ = cond (leb 3 (v .HERE) && NE r (v .T) (v .HERE - 1) (v .HERE - 2)) 2 1 in
@@ -152,7 +159,7 @@ module _ {Form : Type 0} (r : Routines Form) where
         w ← callOrReturn r (v .HERE - NBNEXT) NBNEXT 1 v
         cond (eqb NBNEXT 1) (let x = call r (w .HERE) NBNEXT 1 w in goes (toRow (x .HERE - 1) x)) (above3Past2 w)
 
-  -- to IF( HERE.GT.ILST ) GO TO 20
+  -- IF( NBF.EQ.1 .OR. NBF.EQ.2 ) .., to IF( HERE.GT.ILST ) GO TO 20, at most so many times round
   unfoldable pub label20 : ℕ → Variables Form → Control Form
   label20 zero v = goes v
   label20 (suc k) v = do
@@ -161,7 +168,7 @@ module _ {Form : Type 0} (r : Routines Form) where
 
 -- ---- the whole
 
--- back to the caller; what runs to the end meets ILST = HERE there
+-- RETURN. At the end of the text ILST = HERE stands before it
 unfoldable pub returned : {Form : Type 0} → Control Form → Returned Form
 returned (goes v) = record { T = v .T; ILST = v .HERE; INFO = v .INFO; calls = v .calls }
 returned (returns v) = record { T = v .T; ILST = v .ILST; INFO = v .INFO; calls = v .calls }
