@@ -4,6 +4,7 @@ use lib.Ieee.{Float}
 use Rattle.model.specs.Jacobi as Jacobi
 use Rattle.model.specs.Householder as Householder
 use Rattle.model.specs.Schur22 as Schur22
+use Rattle.model.specs.Lasy2 as Lasy2
 use Rattle.linalg.specs.declared.jacobi.JacobiRotation.{JacobiRotation}
 use Rattle.linalg.specs.declared.jacobi.RotationWith.{RotationWith}
 use Rattle.linalg.specs.declared.jacobi.Pair.{Pair}
@@ -14,6 +15,9 @@ use Rattle.linalg.specs.declared.lahqr_schur22.Values.{Values}
 use Rattle.linalg.specs.declared.lahqr_schur22.Block.{Block}
 use Rattle.linalg.specs.declared.lahqr_schur22.Scaled.{Scaled}
 use Rattle.linalg.specs.declared.lahqr_schur22.Standardised.{Standardised}
+use Rattle.linalg.specs.declared.lasy2.Pivot.{Pivot}
+use Rattle.linalg.specs.declared.lasy2.Solution.{Solution}
+use Rattle.linalg.specs.declared.lasy2.Sylvester.{Sylvester}
 
 abbrev pub rotation : JacobiRotation → Jacobi.Rotation
 rotation j = record { c = j .c; s = j .s }
@@ -43,3 +47,12 @@ scaled s = record { sigma = s .sigma; temp = s .temp }
 
 abbrev pub standardised : Standardised → Schur22.Standardised
 standardised s = record { block = block (s .block); eigenvalues = eigenvalues (s .eigenvalues) }
+
+abbrev pub pivot : Pivot → Lasy2.Pivot
+pivot p = record { xmax = p .xmax; row = p .row; col = p .col }
+
+abbrev pub solution : Solution → Lasy2.Solution
+solution s = record { x = s .x; scale = s .scale }
+
+abbrev pub sylvester : Sylvester → Lasy2.Sylvester
+sylvester s = record { x00 = s .x00; x10 = s .x10; x01 = s .x01; x11 = s .x11; scale = s .scale }

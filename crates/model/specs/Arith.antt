@@ -23,10 +23,6 @@ abbrev pub fourOf : Format → Float
 fourOf binary32 = ofBits binary32 0x4080_0000
 fourOf binary64 = ofBits binary64 0x4010_0000_0000_0000
 
-abbrev pub tenOf : Format → Float
-tenOf binary32 = ofBits binary32 0x4120_0000
-tenOf binary64 = ofBits binary64 0x4024_0000_0000_0000
-
 abbrev pub eightOf : Format → Float
 eightOf binary32 = ofBits binary32 0x4100_0000
 eightOf binary64 = ofBits binary64 0x4020_0000_0000_0000
@@ -35,6 +31,10 @@ eightOf binary64 = ofBits binary64 0x4020_0000_0000_0000
 abbrev pub eighthOf : Format → Float
 eighthOf binary32 = ofBits binary32 0x3e00_0000
 eighthOf binary64 = ofBits binary64 0x3fc0_0000_0000_0000
+
+abbrev pub tenOf : Format → Float
+tenOf binary32 = ofBits binary32 0x4120_0000
+tenOf binary64 = ofBits binary64 0x4024_0000_0000_0000
 
 abbrev pub infinityOf : Format → Float
 infinityOf binary32 = ofBits binary32 0x7f80_0000

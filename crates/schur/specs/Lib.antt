@@ -1,2 +1,4 @@
 pub mod View
 pub mod Run
+pub mod Done
+pub mod Forms

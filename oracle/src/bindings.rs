@@ -1,0 +1,48 @@
+//! The archive's calls as C sees them, and nothing else. build.rs sets `cfg(vx_NAME)` for each
+//! that libvolmeixi.a defines; of the others, the function here hands back `None`.
+
+#![allow(unexpected_cfgs)]
+
+macro_rules! archive {
+    ($($name:ident($($arg:ty),*) -> $back:ty;)*) => { $(
+        pub fn $name() -> Option<unsafe extern "C" fn($($arg),*) -> $back> {
+            #[cfg($name)]
+            {
+                unsafe extern "C" {
+                    fn $name($(_: $arg),*) -> $back;
+                }
+                Some($name)
+            }
+            #[cfg(not($name))]
+            None
+        }
+    )* };
+}
+
+type Read = *const f64;
+type Write = *mut f64;
+type Counts = *mut usize;
+
+// A buffer is its first place and its length.
+archive! {
+    vx_abs(f64) -> f64;
+    vx_abs1(f64) -> f64;
+    vx_abs2(f64) -> f64;
+    vx_recip(f64) -> f64;
+    vx_mul_pow2(f64, f64) -> f64;
+    vx_fmax(f64, f64) -> f64;
+    vx_fmin(f64, f64) -> f64;
+    vx_sqrt(f64) -> f64;
+    vx_hypot(f64, f64) -> f64;
+    vx_norm_l2(Read, usize) -> f64;
+    vx_rotg(f64, f64, Write, usize) -> usize;
+    vx_adjoint(f64, f64, Write, usize) -> usize;
+    vx_apply(f64, f64, f64, f64, Write, usize) -> usize;
+    vx_make_householder_in_place(f64, Write, usize, Write, usize) -> usize;
+    vx_lahqr_schur22(f64, f64, f64, f64, Write, usize) -> usize;
+    vx_lasy2(Read, usize, Read, usize, Read, usize, Write, usize) -> usize;
+    vx_schur_swap(usize, Write, usize, Write, usize, usize, usize, usize, Counts, usize) -> usize;
+    vx_reorder_schur(usize, Write, usize, Write, usize, usize, usize, Counts, usize) -> usize;
+    vx_block_values(usize, Read, usize, Write, usize, Write, usize) -> usize;
+    vx_evd_from_real_schur(usize, Read, usize, Write, usize) -> usize;
+}

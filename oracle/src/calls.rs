@@ -1,0 +1,192 @@
+//! Each call of document 01: turned away by refuse.rs, or run by the Rust in taken.rs.
+
+use crate::arith;
+use crate::note::{self, Notes};
+use crate::record::{Record, Value, find};
+use crate::refuse::{self, MOST_ROWS, Passed};
+use crate::sheet;
+use crate::shim::*;
+use crate::taken::jacobi::JacobiRotation;
+use crate::taken::{eigen, evd, householder, leaves, schur_swap};
+
+/// The results of each call with a buffer for them, in the buffer's order.
+pub const ROTG: &[&str] = &["c", "s", "r"];
+pub const ADJOINT: &[&str] = &["c", "s"];
+pub const APPLY: &[&str] = &["x", "y"];
+pub const REFLECTION: &[&str] = &["head", "tau", "head_with_beta_inv", "norm"];
+pub const STANDARDISED: &[&str] = &["a", "b", "c", "d", "s1re", "s1im", "s2re", "s2im", "cs", "sn"];
+pub const SOLUTION: &[&str] = &["x00", "x10", "x01", "x11", "scale"];
+pub const EXCHANGED: &[&str] = &["swaps", "declined"];
+pub const MOVED: &[&str] = &["landed", "swaps", "declined"];
+
+/// The plain branch of the solvers is taken below this many rows: always.
+const PARAMS: EvdFromSchurParams = EvdFromSchurParams { recursion_threshold: 65 };
+
+/// The answer to a case, with every NaN the same, and what was noted on the way.
+pub fn answer(case: &Record) -> (Record, Notes) {
+    note::take();
+    let answer = run(case).settled();
+    (answer, note::take())
+}
+
+fn run(case: &Record) -> Record {
+    match case.call {
+        "abs" => value(case, arith::abs(case.f("x"))),
+        "abs1" => value(case, arith::abs1(case.f("x"))),
+        "abs2" => value(case, arith::abs2(case.f("x"))),
+        "recip" => value(case, arith::recip(case.f("x"))),
+        "mul_pow2" => value(case, arith::mul_pow2(case.f("x"), case.f("p"))),
+        "fmax" => value(case, arith::fmax(case.f("p"), case.f("q"))),
+        "fmin" => value(case, arith::fmin(case.f("p"), case.f("q"))),
+        "sqrt" => value(case, arith::sqrt(case.f("x"))),
+        "hypot" => value(case, arith::hypot(case.f("p"), case.f("q"))),
+        "norm_l2" => value(case, arith::norm_l2(case.l("x").iter().copied())),
+        "inner_prod" => value(case, arith::inner_prod(case.l("x").iter().copied().zip(case.l("y").iter().copied()))),
+        "rotg" => results(case, ROTG, |c| {
+            let (rot, r) = JacobiRotation::rotg(c.f("p"), c.f("q"));
+            vec![rot.c, rot.s, r]
+        }),
+        "adjoint" => results(case, ADJOINT, |c| {
+            let rot = JacobiRotation { c: c.f("c"), s: c.f("s") }.adjoint();
+            vec![rot.c, rot.s]
+        }),
+        "apply" => results(case, APPLY, |c| {
+            let (x, y) = arith::apply(c.f("c"), c.f("s"), c.f("x"), c.f("y"));
+            vec![x, y]
+        }),
+        "lahqr_schur22" => results(case, STANDARDISED, standardise),
+        "make_householder_in_place" => reflect(case),
+        "lasy2" => solve(case),
+        "schur_swap" => exchange(case),
+        "reorder_schur" => reorder(case),
+        "block_values" => block_values(case),
+        "evd_from_real_schur" => vectors(case),
+        "column" => column(case),
+        "sheet" => Record::new(case.call).with("text", Value::Bytes(sheet::run(case.bytes("text")))),
+        other => unreachable!("no call {other}"),
+    }
+}
+
+fn value(case: &Record, r: f64) -> Record {
+    Record::new(case.call).float("r", r)
+}
+
+/// An answer that begins with its number.
+fn numbered(case: &Record, passed: Passed) -> Record {
+    Record::new(case.call).num("answer", passed.err().unwrap_or(0))
+}
+
+fn out_fits(case: &Record) -> bool {
+    Some(case.out()) == find(case.call).and_then(|c| c.results)
+}
+
+/// A call turned away only for its buffer of results.
+fn results(case: &Record, keys: &[&'static str], run: impl Fn(&Record) -> Vec<f64>) -> Record {
+    let passed = refuse::results(case.out(), keys.len());
+    let answer = numbered(case, passed);
+    if passed.is_ok() { floats(answer, keys, &run(case)) } else { answer }
+}
+
+fn floats(answer: Record, keys: &[&'static str], numbers: &[f64]) -> Record {
+    keys.iter().zip(numbers).fold(answer, |answer, (key, x)| answer.float(key, *x))
+}
+
+fn standardise(case: &Record) -> Vec<f64> {
+    let ((a, b, c, d), s1, s2, (cs, sn)) = leaves::lahqr_schur22(case.f("a"), case.f("b"), case.f("c"), case.f("d"));
+    vec![a, b, c, d, s1.0, s1.1, s2.0, s2.1, cs, sn]
+}
+
+fn reflect(case: &Record) -> Record {
+    let mut tail = case.l("tail").to_vec();
+    let passed = refuse::results(case.out(), REFLECTION.len()).and_then(|()| refuse::reflection(&tail));
+    let mut answer = numbered(case, passed);
+    if passed.is_ok() {
+        let mut head = case.f("head");
+        let rows = tail.len();
+        let info = householder::make_householder_in_place(&mut head, MatMut::from_slice(&mut tail, rows, 1).col_mut(0));
+        answer = floats(answer, REFLECTION, &[head, info.tau, info.head_with_beta_inv, info.norm]);
+    }
+    answer.list("tail", tail)
+}
+
+fn solve(case: &Record) -> Record {
+    let (tl, tr, b) = (case.l("tl"), case.l("tr"), case.l("b"));
+    let fits = tl.len() == 4 && tr.len() == 4 && b.len() == 4 && out_fits(case);
+    if !fits {
+        return numbered(case, Err(4));
+    }
+    let window = |x| MatRef::from_slice(x, 2, 2);
+    let mut x = [0.0; 4];
+    let scale = leaves::lasy2(window(tl), window(tr), window(b), MatMut::from_slice(&mut x, 2, 2));
+    floats(numbered(case, Ok(())), SOLUTION, &[x[0], x[1], x[2], x[3], scale])
+}
+
+/// A lent factor; of length 0, none.
+fn factor(u: &mut [f64], n: usize) -> Option<MatMut<'_, f64>> {
+    if u.is_empty() { None } else { Some(MatMut::from_slice(u, n, n)) }
+}
+
+fn exchange(case: &Record) -> Record {
+    let (n, j0, n1, n2) = (case.n("n"), case.n("j0"), case.n("n1"), case.n("n2"));
+    let (mut t, mut u) = (case.l("t").to_vec(), case.l("u").to_vec());
+    let passed = refuse::exchange(n, &t, &u, j0, n1, n2, out_fits(case));
+    let mut answer = numbered(case, passed);
+    if passed.is_ok() {
+        schur_swap(MatMut::from_slice(&mut t, n, n), factor(&mut u, n), j0, n1, n2);
+        let notes = note::seen();
+        answer = answer.num("swaps", notes.swaps).num("declined", notes.declined);
+    }
+    answer.list("t", t).list("u", u)
+}
+
+/// An accepted move, run by the Rust; the notes hold its counts and the row.
+pub fn run_move(n: usize, t: &mut [f64], u: &mut [f64], from: usize, to: usize) -> Notes {
+    eigen::reorder_schur(MatMut::from_slice(t, n, n), factor(u, n), from, to);
+    note::seen()
+}
+
+fn reorder(case: &Record) -> Record {
+    let (n, from, to) = (case.n("n"), case.n("from"), case.n("to"));
+    let (mut t, mut u) = (case.l("t").to_vec(), case.l("u").to_vec());
+    let passed = refuse::reorder(MOST_ROWS, n, &t, &u, from, to, out_fits(case));
+    let mut answer = numbered(case, passed);
+    if passed.is_ok() {
+        let notes = run_move(n, &mut t, &mut u, from, to);
+        answer = answer.num("landed", notes.here).num("swaps", notes.swaps).num("declined", notes.declined);
+    }
+    answer.list("t", t).list("u", u)
+}
+
+fn block_values(case: &Record) -> Record {
+    let (n, t) = (case.n("n"), case.l("t"));
+    let (mut re, mut im) = (case.l("re").to_vec(), case.l("im").to_vec());
+    let passed = refuse::block_values(n, t, &re, &im);
+    if passed.is_ok() {
+        let form = MatRef::from_slice(t, n, n);
+        let mut values = vec![Complex::new(0.0, 0.0); n];
+        let mut unused = vec![Complex::new(0.0, 0.0); n * n];
+        eigen::block_values(form, form, &mut values, MatMut::from_slice(&mut unused, n, n));
+        re = values.iter().map(|z| z.re).collect();
+        im = values.iter().map(|z| z.im).collect();
+    }
+    numbered(case, passed).list("re", re).list("im", im)
+}
+
+fn vectors(case: &Record) -> Record {
+    let (n, t) = (case.n("n"), case.l("t"));
+    let mut v = case.l("v").to_vec();
+    let passed = refuse::vectors(n, t, &v);
+    if passed.is_ok() {
+        evd::evd_from_real_schur_imp(MatRef::from_slice(t, n, n), MatMut::from_slice(&mut v, n, n), Par::Seq, PARAMS);
+    }
+    numbered(case, passed).list("v", v)
+}
+
+fn column(case: &Record) -> Record {
+    let (n, v, col) = (case.n("n"), case.l("v"), case.n("col"));
+    let part = match refuse::column(n, v, col) {
+        Ok(()) => &v[n * col..n * col + n],
+        Err(_) => &[],
+    };
+    Record::new(case.call).list("part", part.to_vec())
+}

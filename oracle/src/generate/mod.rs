@@ -1,0 +1,128 @@
+//! Cases for every call, each settled by the call, the seed and its index alone.
+
+mod damage;
+pub mod floats;
+mod forms;
+pub mod rng;
+mod small;
+mod text;
+
+use crate::record::{Record, Value};
+use forms::{begins_pair, buffer, factor, form, starts};
+use rng::Rng;
+
+/// The numbers of rows to draw from, both included.
+#[derive(Clone, Copy)]
+pub struct Sizes {
+    pub least: usize,
+    pub most: usize,
+}
+
+pub const USUAL: Sizes = Sizes { least: 1, most: 12 };
+
+/// The case of a call with the given index.
+pub fn case(call: &'static str, seed: u64, index: u64, sizes: Sizes) -> Record {
+    let rng = &mut Rng::new(seed, call, index);
+    let case = match call {
+        "schur_swap" => exchange(rng, sizes),
+        "reorder_schur" => reorder(rng, sizes),
+        "block_values" => {
+            let n = rows(rng, sizes);
+            Record::new(call).num("n", n).list("t", form(rng, n)).list("re", buffer(rng, n)).list("im", buffer(rng, n))
+        }
+        "evd_from_real_schur" => {
+            let n = rows(rng, sizes);
+            Record::new(call).num("n", n).list("t", form(rng, n)).list("v", buffer(rng, n * n))
+        }
+        "column" => {
+            let n = rows(rng, sizes);
+            Record::new(call).num("n", n).list("v", buffer(rng, n * n)).num("col", rng.below(n))
+        }
+        "sheet" => return sheet(rng, sizes),
+        _ => return small::case(call, rng, index),
+    };
+    let case = if rng.one_in(12) { damage::damage(rng, case) } else { case };
+    small::wrong_out(rng, case)
+}
+
+/// Small numbers of rows are drawn more often.
+fn rows(rng: &mut Rng, sizes: Sizes) -> usize {
+    let span = sizes.most + 1 - sizes.least;
+    let first = rng.below(span);
+    let second = rng.below(span);
+    sizes.least + if rng.one_in(2) { first.min(second) } else { first }
+}
+
+fn reorder(rng: &mut Rng, sizes: Sizes) -> Record {
+    let n = rows(rng, sizes);
+    let t = form(rng, n);
+    let u = factor(rng, n);
+    Record::new("reorder_schur").num("n", n).list("t", t).list("u", u).num("from", rng.below(n)).num("to", rng.below(n))
+}
+
+/// Mostly two neighbouring blocks, or two rows taken for one block; else any sizes anywhere.
+fn exchange(rng: &mut Rng, sizes: Sizes) -> Record {
+    let n = rows(rng, sizes).max(2.min(sizes.most));
+    let t = form(rng, n);
+    let u = factor(rng, n);
+    let (j0, n1, n2) = if rng.one_in(16) {
+        (rng.below(n), rng.below(4), rng.below(4))
+    } else {
+        let tries: Vec<_> = (0..8).map(|_| neighbours(rng, n, &t)).collect();
+        tries.iter().copied().find(|(j0, n1, n2)| j0 + n1 + n2 <= n).unwrap_or(tries[0])
+    };
+    Record::new("schur_swap").num("n", n).list("t", t).list("u", u).num("j0", j0).num("n1", n1).num("n2", n2)
+}
+
+/// A block's first row, its size and the size of what follows.
+fn neighbours(rng: &mut Rng, n: usize, t: &[f64]) -> (usize, usize, usize) {
+    let j0 = rng.pick(&starts(n, t));
+    let size = |rng: &mut Rng, i: usize| {
+        let two_rows = i + 1 < n && !begins_pair(n, t, i + 1) && rng.one_in(3);
+        if begins_pair(n, t, i) || two_rows { 2 } else { 1 }
+    };
+    let n1 = size(rng, j0);
+    (j0, n1, size(rng, j0 + n1))
+}
+
+fn sheet(rng: &mut Rng, sizes: Sizes) -> Record {
+    let move_case = reorder(rng, Sizes { most: sizes.most.min(33), ..sizes });
+    let move_case = if rng.one_in(6) { damage::damage(rng, move_case) } else { move_case };
+    let text = text::of_move(&move_case);
+    let text = if rng.one_in(3) { text::broken(rng, text) } else { text };
+    Record::new("sheet").with("text", Value::Bytes(text))
+}
+
+#[cfg(test)]
+mod tests {
+    use super::*;
+    use crate::calls;
+    use crate::record::CALLS;
+    use crate::tally::Tally;
+
+    #[test]
+    fn cases_read_back() {
+        for call in CALLS {
+            for index in 0..200 {
+                let line = case(call.name, 5, index, USUAL).to_string();
+                assert_eq!(Record::parse(&line).unwrap().to_string(), line);
+            }
+        }
+    }
+
+    #[test]
+    fn splits_declines_and_every_line_occur() {
+        let lines = |call: &'static str| {
+            let mut tally = Tally::default();
+            for index in 0..4000 {
+                let (answer, notes) = calls::answer(&case(call, 5, index, USUAL));
+                tally.add(&answer, &notes);
+            }
+            assert!(call == "evd_from_real_schur" || tally.split > 100 && tally.declined > 100);
+            tally.answers.into_keys().collect::<Vec<usize>>()
+        };
+        assert_eq!(lines("schur_swap"), [0, 2, 3, 4, 5, 6, 7, 8, 9, 10]);
+        assert_eq!(lines("reorder_schur"), [0, 2, 3, 4, 5, 6, 7]);
+        assert_eq!(lines("evd_from_real_schur"), [0, 2, 3, 4, 5, 6]);
+    }
+}

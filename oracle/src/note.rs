@@ -1,0 +1,53 @@
+//! What a run of the Rust leaves behind beside its buffers: swaps, declines, splits, the row.
+
+use std::cell::Cell;
+
+#[derive(Clone, Copy, Default)]
+pub struct Notes {
+    /// Runs of the four swap routines.
+    pub swaps: usize,
+    /// Runs of schur_swap_22 that returned 1.
+    pub declined: usize,
+    /// Blocks that came apart on the way, or exchanges of a size 2 with a zero inside.
+    pub splits: usize,
+    /// Where the moved block stands.
+    pub here: usize,
+}
+
+thread_local! {
+    static NOTES: Cell<Notes> = const { Cell::new(Notes { swaps: 0, declined: 0, splits: 0, here: 0 }) };
+}
+
+fn change(f: impl Fn(&mut Notes)) {
+    NOTES.with(|cell| {
+        let mut notes = cell.get();
+        f(&mut notes);
+        cell.set(notes);
+    });
+}
+
+/// Hands out the notes taken so far and starts afresh.
+pub fn take() -> Notes {
+    NOTES.take()
+}
+
+/// The notes taken so far.
+pub fn seen() -> Notes {
+    NOTES.get()
+}
+
+pub fn swap() {
+    change(|n| n.swaps += 1);
+}
+
+pub fn decline() {
+    change(|n| n.declined += 1);
+}
+
+pub fn split() {
+    change(|n| n.splits += 1);
+}
+
+pub fn here(row: usize) {
+    change(|n| n.here = row);
+}

@@ -1,0 +1,86 @@
+//! Lines 2 to 11 of document 01's list, in its order: when a call is turned away.
+//! Line 1, on the program's text, is in sheet.rs.
+
+/// `Err` with the number of the first line that applies.
+pub type Passed = Result<(), usize>;
+
+pub const MOST_ROWS: usize = 64;
+
+fn line(number: usize, applies: bool) -> Passed {
+    if applies { Err(number) } else { Ok(()) }
+}
+
+/// Minus zero is zero, a NaN is not.
+fn is_set(x: f64) -> bool {
+    x != 0.0
+}
+
+fn size(n: usize, most: usize) -> Passed {
+    line(2, n == 0 || n > most)
+}
+
+fn square(n: usize, t: &[f64]) -> Passed {
+    line(3, t.len() != n * n)
+}
+
+fn factor(n: usize, u: &[f64]) -> Passed {
+    line(4, !u.is_empty() && u.len() != n * n)
+}
+
+/// A buffer of results, with as many places as the archive's call asks for.
+pub fn results(len: usize, right: usize) -> Passed {
+    line(4, len != right)
+}
+
+fn form(n: usize, t: &[f64]) -> Passed {
+    let at = |i: usize, j: usize| is_set(t[i + n * j]);
+    line(5, (0..n).any(|j| (j + 2..n).any(|i| at(i, j))))?;
+    line(6, (2..n).any(|i| at(i - 1, i - 2) && at(i, i - 1)))
+}
+
+/// What a move is turned away for; the program allows fewer rows.
+pub fn reorder(most: usize, n: usize, t: &[f64], u: &[f64], from: usize, to: usize, out_fits: bool) -> Passed {
+    size(n, most)?;
+    square(n, t)?;
+    line(4, !out_fits)?;
+    factor(n, u)?;
+    form(n, t)?;
+    line(7, from >= n || to >= n)
+}
+
+pub fn exchange(n: usize, t: &[f64], u: &[f64], j0: usize, n1: usize, n2: usize, out_fits: bool) -> Passed {
+    size(n, MOST_ROWS)?;
+    square(n, t)?;
+    line(4, !out_fits)?;
+    factor(n, u)?;
+    form(n, t)?;
+    line(7, j0 >= n)?;
+    line(8, !matches!(n1, 1 | 2) || !matches!(n2, 1 | 2))?;
+    line(9, j0 + n1 + n2 > n)?;
+    let across = |edge: usize| edge > 0 && edge < n && is_set(t[edge + n * (edge - 1)]);
+    line(10, across(j0) || across(j0 + n1) || across(j0 + n1 + n2))
+}
+
+pub fn block_values(n: usize, t: &[f64], re: &[f64], im: &[f64]) -> Passed {
+    size(n, MOST_ROWS)?;
+    square(n, t)?;
+    line(4, re.len() != n || im.len() != n)?;
+    form(n, t)
+}
+
+pub fn vectors(n: usize, t: &[f64], v: &[f64]) -> Passed {
+    size(n, MOST_ROWS)?;
+    square(n, t)?;
+    line(4, v.len() != n * n)?;
+    form(n, t)
+}
+
+pub fn column(n: usize, v: &[f64], col: usize) -> Passed {
+    size(n, MOST_ROWS)?;
+    line(4, v.len() != n * n)?;
+    line(7, col >= n)
+}
+
+pub fn reflection(tail: &[f64]) -> Passed {
+    line(11, !matches!(tail.len(), 1..=3))
+}

@@ -1,0 +1,363 @@
+//! Views of numbers lent column after column: matrices, columns and rows, read-only or writable.
+//! Every index and every cut is checked.
+
+use super::field::{ComplexField, RealField};
+use crate::arith;
+use core::marker::PhantomData;
+use core::ops::{Bound, Index, IndexMut, RangeBounds};
+use core::ptr::NonNull;
+
+/// A shorter loan of a view to read.
+pub trait Reborrow {
+    type Ref<'s>
+    where
+        Self: 's;
+    fn rb(&self) -> Self::Ref<'_>;
+}
+
+/// A shorter loan of a view to write.
+pub trait ReborrowMut {
+    type Mut<'s>
+    where
+        Self: 's;
+    fn rb_mut(&mut self) -> Self::Mut<'_>;
+}
+
+impl<V: ReborrowMut> ReborrowMut for Option<V> {
+    type Mut<'s>
+        = Option<V::Mut<'s>>
+    where
+        V: 's;
+    fn rb_mut(&mut self) -> Option<V::Mut<'_>> {
+        self.as_mut().map(|v| v.rb_mut())
+    }
+}
+
+/// Where the numbers of a view stand: the first, the size, the steps down and across.
+struct Grid<T> {
+    first: NonNull<T>,
+    rows: usize,
+    cols: usize,
+    down: usize,
+    across: usize,
+}
+
+impl<T> Clone for Grid<T> {
+    fn clone(&self) -> Self {
+        *self
+    }
+}
+impl<T> Copy for Grid<T> {}
+
+impl<T> Grid<T> {
+    fn at(&self, i: usize, j: usize) -> NonNull<T> {
+        assert!(i < self.rows && j < self.cols, "({i}, {j}) in {} by {}", self.rows, self.cols);
+        unsafe { self.first.add(i * self.down + j * self.across) }
+    }
+
+    fn part(&self, i: usize, j: usize, rows: usize, cols: usize) -> Grid<T> {
+        assert!(i + rows <= self.rows && j + cols <= self.cols, "part beyond the view");
+        let first = if rows == 0 || cols == 0 { self.first } else { self.at(i, j) };
+        Grid { first, rows, cols, ..*self }
+    }
+
+    fn turned(&self) -> Grid<T> {
+        Grid { first: self.first, rows: self.cols, cols: self.rows, down: self.across, across: self.down }
+    }
+}
+
+pub struct MatRef<'a, T> {
+    grid: Grid<T>,
+    life: PhantomData<&'a T>,
+}
+pub struct MatMut<'a, T> {
+    grid: Grid<T>,
+    life: PhantomData<&'a mut T>,
+}
+/// One column: a view of one column's width.
+pub struct ColRef<'a, T>(MatRef<'a, T>);
+pub struct ColMut<'a, T>(MatMut<'a, T>);
+/// One row, kept as the column that it turns into.
+pub struct RowRef<'a, T>(ColRef<'a, T>);
+
+macro_rules! copied {
+    ($($view:ident)*) => { $(
+        impl<T> Clone for $view<'_, T> {
+            fn clone(&self) -> Self {
+                *self
+            }
+        }
+        impl<T> Copy for $view<'_, T> {}
+    )* };
+}
+copied!(MatRef ColRef RowRef);
+
+impl<'a, T> MatRef<'a, T> {
+    fn new(grid: Grid<T>) -> Self {
+        MatRef { grid, life: PhantomData }
+    }
+    pub fn from_slice(numbers: &'a [T], rows: usize, cols: usize) -> Self {
+        assert!(numbers.len() == rows * cols);
+        let first = NonNull::from(numbers).cast();
+        MatRef::new(Grid { first, rows, cols, down: 1, across: rows })
+    }
+    pub fn nrows(&self) -> usize {
+        self.grid.rows
+    }
+    pub fn ncols(&self) -> usize {
+        self.grid.cols
+    }
+    pub fn submatrix(self, i: usize, j: usize, rows: usize, cols: usize) -> Self {
+        MatRef::new(self.grid.part(i, j, rows, cols))
+    }
+    pub fn subrows(self, i: usize, rows: usize) -> Self {
+        self.submatrix(i, 0, rows, self.ncols())
+    }
+    pub fn split_at(self, i: usize, j: usize) -> (Self, Self, Self, Self) {
+        let (m, n) = (self.nrows() - i, self.ncols() - j);
+        (self.submatrix(0, 0, i, j), self.submatrix(0, j, i, n), self.submatrix(i, 0, m, j), self.submatrix(i, j, m, n))
+    }
+    pub fn col(self, j: usize) -> ColRef<'a, T> {
+        ColRef(self.submatrix(0, j, self.nrows(), 1))
+    }
+    pub fn row(self, i: usize) -> RowRef<'a, T> {
+        RowRef(ColRef(MatRef::new(self.grid.part(i, 0, 1, self.ncols()).turned())))
+    }
+}
+
+impl<'a, T> MatMut<'a, T> {
+    fn new(grid: Grid<T>) -> Self {
+        MatMut { grid, life: PhantomData }
+    }
+    pub fn from_slice(numbers: &'a mut [T], rows: usize, cols: usize) -> Self {
+        assert!(numbers.len() == rows * cols);
+        let first = NonNull::from(numbers).cast();
+        MatMut::new(Grid { first, rows, cols, down: 1, across: rows })
+    }
+    pub fn nrows(&self) -> usize {
+        self.grid.rows
+    }
+    pub fn submatrix_mut(self, i: usize, j: usize, rows: usize, cols: usize) -> Self {
+        MatMut::new(self.grid.part(i, j, rows, cols))
+    }
+    pub fn subrows_mut(self, i: usize, rows: usize) -> Self {
+        let cols = self.grid.cols;
+        self.submatrix_mut(i, 0, rows, cols)
+    }
+    pub fn get_mut(self, rows: impl RangeBounds<usize>, cols: impl RangeBounds<usize>) -> Self {
+        let (i, m) = cut(rows, self.grid.rows);
+        let (j, n) = cut(cols, self.grid.cols);
+        self.submatrix_mut(i, j, m, n)
+    }
+    pub fn split_at_row_mut(self, i: usize) -> (Self, Self) {
+        let (rows, cols) = (self.grid.rows, self.grid.cols);
+        (MatMut::new(self.grid.part(0, 0, i, cols)), MatMut::new(self.grid.part(i, 0, rows - i, cols)))
+    }
+    pub fn col_mut(self, j: usize) -> ColMut<'a, T> {
+        ColMut(MatMut::new(self.grid.part(0, j, self.grid.rows, 1)))
+    }
+    pub fn two_cols_mut(self, j: usize, k: usize) -> (ColMut<'a, T>, ColMut<'a, T>) {
+        assert!(j != k);
+        let col = |j| ColMut(MatMut::new(self.grid.part(0, j, self.grid.rows, 1)));
+        (col(j), col(k))
+    }
+    pub fn transpose_mut(self) -> Self {
+        MatMut::new(self.grid.turned())
+    }
+    pub fn swap(&mut self, p: (usize, usize), q: (usize, usize)) {
+        unsafe { NonNull::swap(self.grid.at(p.0, p.1), self.grid.at(q.0, q.1)) }
+    }
+    pub fn ncols(&self) -> usize {
+        self.grid.cols
+    }
+}
+
+impl<T: ComplexField> MatMut<'_, T> {
+    pub fn copy_from(&mut self, from: MatRef<'_, T>) {
+        assert!(self.nrows() == from.nrows() && self.ncols() == from.ncols());
+        for j in 0..self.ncols() {
+            for i in 0..self.nrows() {
+                self[(i, j)] = from[(i, j)].copy();
+            }
+        }
+    }
+}
+
+/// A range of rows or columns as its start and its length.
+fn cut(range: impl RangeBounds<usize>, whole: usize) -> (usize, usize) {
+    let from = match range.start_bound() {
+        Bound::Included(&i) => i,
+        Bound::Excluded(&i) => i + 1,
+        Bound::Unbounded => 0,
+    };
+    let to = match range.end_bound() {
+        Bound::Included(&i) => i + 1,
+        Bound::Excluded(&i) => i,
+        Bound::Unbounded => whole,
+    };
+    (from, to - from)
+}
+
+impl<'a, T> ColRef<'a, T> {
+    pub fn nrows(&self) -> usize {
+        self.0.nrows()
+    }
+    pub fn subrows(self, i: usize, rows: usize) -> Self {
+        ColRef(self.0.subrows(i, rows))
+    }
+    pub fn transpose(self) -> RowRef<'a, T> {
+        RowRef(self)
+    }
+    pub fn as_mat(self) -> MatRef<'a, T> {
+        self.0
+    }
+}
+
+impl<T: RealField> ColRef<'_, T> {
+    pub fn norm_l2(&self) -> T {
+        T::from_f64(arith::norm_l2((0..self.nrows()).map(|i| self[i].to_f64())))
+    }
+}
+
+impl<'a, T> ColMut<'a, T> {
+    pub fn nrows(&self) -> usize {
+        self.0.nrows()
+    }
+    pub fn subrows_mut(self, i: usize, rows: usize) -> Self {
+        ColMut(self.0.subrows_mut(i, rows))
+    }
+    pub fn split_at_row_mut(self, i: usize) -> (Self, Self) {
+        let (upper, lower) = self.0.split_at_row_mut(i);
+        (ColMut(upper), ColMut(lower))
+    }
+    pub fn at_mut(self, i: usize) -> &'a mut T {
+        unsafe { self.0.grid.at(i, 0).as_mut() }
+    }
+    pub fn as_mat_mut(self) -> MatMut<'a, T> {
+        self.0
+    }
+}
+
+impl<'a, T> RowRef<'a, T> {
+    pub fn ncols(&self) -> usize {
+        self.0.nrows()
+    }
+    pub fn subcols(self, j: usize, cols: usize) -> Self {
+        RowRef(self.0.subrows(j, cols))
+    }
+    pub fn transpose(self) -> ColRef<'a, T> {
+        self.0
+    }
+}
+
+macro_rules! loans {
+    ($($view:ident($read:ident) $inner:ident;)*) => { $(
+        impl<T> Reborrow for $view<'_, T> {
+            type Ref<'s> = $read<'s, T> where Self: 's;
+            fn rb(&self) -> $read<'_, T> {
+                $inner!(rb $read self)
+            }
+        }
+        impl<T> ReborrowMut for $view<'_, T> {
+            type Mut<'s> = $view<'s, T> where Self: 's;
+            fn rb_mut(&mut self) -> $view<'_, T> {
+                $inner!(rb_mut $view self)
+            }
+        }
+    )* };
+}
+macro_rules! grid {
+    ($loan:ident $view:ident $of:ident) => {
+        $view::new($of.grid)
+    };
+}
+macro_rules! mat {
+    ($loan:ident $view:ident $of:ident) => {
+        $view($of.0.$loan())
+    };
+}
+loans! {
+    MatMut(MatRef) grid;
+    ColMut(ColRef) mat;
+}
+
+macro_rules! indexed {
+    ($($view:ident [$place:ty] $at:expr;)*) => { $(
+        impl<T> Index<$place> for $view<'_, T> {
+            type Output = T;
+            fn index(&self, place: $place) -> &T {
+                unsafe { $at(self, place).as_ref() }
+            }
+        }
+    )* };
+}
+indexed! {
+    MatRef[(usize, usize)] |m: &MatRef<'_, T>, (i, j)| m.grid.at(i, j);
+    MatMut[(usize, usize)] |m: &MatMut<'_, T>, (i, j)| m.grid.at(i, j);
+    ColRef[usize] |c: &ColRef<'_, T>, i| c.0.grid.at(i, 0);
+    ColMut[usize] |c: &ColMut<'_, T>, i| c.0.grid.at(i, 0);
+    RowRef[usize] |r: &RowRef<'_, T>, j| r.0.0.grid.at(j, 0);
+}
+impl<T> IndexMut<(usize, usize)> for MatMut<'_, T> {
+    fn index_mut(&mut self, (i, j): (usize, usize)) -> &mut T {
+        unsafe { self.grid.at(i, j).as_mut() }
+    }
+}
+impl<T> IndexMut<usize> for ColMut<'_, T> {
+    fn index_mut(&mut self, i: usize) -> &mut T {
+        unsafe { self.0.grid.at(i, 0).as_mut() }
+    }
+}
+
+/// The numbers of views walked together, by `zip!`.
+pub struct Zipped<P>(pub P);
+
+/// A view as the walk over its numbers, column after column.
+pub trait IntoPlaces {
+    type Item;
+    fn places(self) -> impl Iterator<Item = Self::Item>;
+}
+
+fn walk<T>(grid: Grid<T>) -> impl Iterator<Item = NonNull<T>> {
+    (0..grid.cols).flat_map(move |j| (0..grid.rows).map(move |i| grid.at(i, j)))
+}
+
+impl<'a, T> IntoPlaces for MatRef<'a, T> {
+    type Item = &'a T;
+    fn places(self) -> impl Iterator<Item = &'a T> {
+        walk(self.grid).map(|p| unsafe { p.as_ref() })
+    }
+}
+impl<'a, T> IntoPlaces for ColRef<'a, T> {
+    type Item = &'a T;
+    fn places(self) -> impl Iterator<Item = &'a T> {
+        self.0.places()
+    }
+}
+impl<'a, T> IntoPlaces for ColMut<'a, T> {
+    type Item = &'a mut T;
+    fn places(self) -> impl Iterator<Item = &'a mut T> {
+        walk(self.0.grid).map(|mut p| unsafe { p.as_mut() })
+    }
+}
+
+impl<A: Iterator> Zipped<(A,)> {
+    pub fn for_each(self, mut f: impl FnMut((A::Item,))) {
+        self.0.0.for_each(|a| f((a,)));
+    }
+}
+impl<A: Iterator, B: Iterator> Zipped<(A, B)> {
+    pub fn for_each(self, f: impl FnMut((A::Item, B::Item))) {
+        self.0.0.zip(self.0.1).for_each(f);
+    }
+}
+impl<A: Iterator, B: Iterator, C: Iterator> Zipped<(A, B, C)> {
+    pub fn for_each(self, mut f: impl FnMut((A::Item, B::Item, C::Item))) {
+        self.0.0.zip(self.0.1).zip(self.0.2).for_each(|((a, b), c)| f((a, b, c)));
+    }
+}
+impl<A: Iterator, B: Iterator, C: Iterator, D: Iterator> Zipped<(A, B, C, D)> {
+    pub fn for_each(self, mut f: impl FnMut((A::Item, B::Item, C::Item, D::Item))) {
+        self.0.0.zip(self.0.1).zip(self.0.2).zip(self.0.3).for_each(|(((a, b), c), d)| f((a, b, c, d)));
+    }
+}

@@ -1,0 +1,53 @@
+//! Counts over many cases: how many, how many of each answer, and how many split or declined.
+
+use crate::note::Notes;
+use crate::record::Record;
+use crate::record::Value;
+use std::collections::BTreeMap;
+use std::fmt;
+
+#[derive(Default)]
+pub struct Tally {
+    pub cases: u64,
+    pub answers: BTreeMap<usize, u64>,
+    pub split: u64,
+    pub declined: u64,
+}
+
+impl Tally {
+    pub fn add(&mut self, answer: &Record, notes: &Notes) {
+        self.cases += 1;
+        self.split += u64::from(notes.splits > 0);
+        self.declined += u64::from(notes.declined > 0);
+        if let Some(number) = number_of(answer) {
+            *self.answers.entry(number).or_default() += 1;
+        }
+    }
+}
+
+/// The answer's number; for a sheet, the one it prints.
+fn number_of(answer: &Record) -> Option<usize> {
+    match answer.find("answer").or(answer.find("text"))? {
+        Value::Num(number) => Some(*number),
+        Value::Bytes(text) => {
+            let line = text.split(|b| *b == b'\n').next()?;
+            std::str::from_utf8(line.strip_prefix(b"answer=")?).ok()?.parse().ok()
+        }
+        _ => None,
+    }
+}
+
+impl fmt::Display for Tally {
+    fn fmt(&self, f: &mut fmt::Formatter<'_>) -> fmt::Result {
+        write!(f, "{} cases", self.cases)?;
+        if self.split + self.declined > 0 {
+            write!(f, ", {} with a split, {} with a decline", self.split, self.declined)?;
+        }
+        if !self.answers.is_empty() {
+            let answers: Vec<String> =
+                self.answers.iter().map(|(number, count)| format!("{number}: {count}")).collect();
+            write!(f, ", answers {{{}}}", answers.join(", "))?;
+        }
+        Ok(())
+    }
+}

@@ -1,0 +1,102 @@
+//! Stored vectors for programs that replay them without the Rust: `NAME INDEX WORD ...`, every
+//! number a word of 16 hexadecimal digits, single spaces between, the given numbers first and the
+//! expected ones after them, always the same count for a call. README.md lists the words.
+
+use crate::calls;
+use crate::generate::floats::PATTERNS;
+use crate::generate::{self, USUAL};
+use crate::record::{Kind, Record, Value, find};
+use std::io::{self, Write};
+
+/// The calls that have stored vectors, and how many random cases follow the patterns.
+const STORED: &[(&str, u64)] = &[
+    ("abs", 35),
+    ("abs1", 35),
+    ("abs2", 35),
+    ("recip", 35),
+    ("mul_pow2", 0),
+    ("fmax", 0),
+    ("fmin", 0),
+    ("sqrt", 375),
+    ("hypot", 200),
+    ("norm_l2", 200),
+    ("rotg", 200),
+    ("adjoint", 75),
+    ("apply", 200),
+    ("make_householder_in_place", 300),
+];
+
+const SEED: u64 = 1;
+const NORM_PLACES: usize = 6;
+const TAIL_PLACES: usize = 5;
+
+/// Writes the vectors of the named calls, or of all that have them.
+pub fn write(names: &[&str], out: &mut impl Write) -> io::Result<()> {
+    let unknown = names.iter().find(|name| **name != "all" && !STORED.iter().any(|s| s.0 == **name));
+    if let Some(name) = unknown {
+        return Err(io::Error::other(format!("`{name}` has no stored vectors")));
+    }
+    for (name, random) in STORED.iter().filter(|s| names.contains(&s.0) || names.contains(&"all")) {
+        for (index, case) in cases(name, *random).iter().enumerate() {
+            let words: Vec<String> = words(case).iter().map(|w| format!("{w:016x}")).collect();
+            writeln!(out, "{name} {index:016x} {}", words.join(" "))?;
+        }
+    }
+    Ok(())
+}
+
+/// Every pattern, or every pattern against every pattern; then random cases.
+fn cases(name: &str, random: u64) -> Vec<Record> {
+    let call = find(name).expect("a stored call");
+    let mut cases = match call.given {
+        [(x, Kind::Float)] => PATTERNS.iter().map(|p| Record::new(call.name).float(x, f64::from_bits(*p))).collect(),
+        [(p, Kind::Float), (q, Kind::Float)] => pairs(call.name, |case, x, y| case.float(p, x).float(q, y)),
+        [(head, Kind::Float), (tail, Kind::List)] => {
+            let mut cases = pairs(call.name, |case, x, y| case.float(head, x).list(tail, vec![y]));
+            cases.extend(
+                (0..=TAIL_PLACES).map(|len| Record::new(call.name).float(head, 49.0).list(tail, vec![3.0; len])),
+            );
+            cases
+        }
+        _ => Vec::new(),
+    };
+    let drawn = (0..).map(|index| generate::case(call.name, SEED, index, USUAL));
+    cases.extend(drawn.filter(|case| case.find("out").is_none()).take(random as usize));
+    cases
+}
+
+fn pairs(name: &'static str, case: impl Fn(Record, f64, f64) -> Record) -> Vec<Record> {
+    let each = |x: u64| PATTERNS.iter().map(move |y| (f64::from_bits(x), f64::from_bits(*y)));
+    PATTERNS.iter().flat_map(|x| each(*x)).map(|(x, y)| case(Record::new(name), x, y)).collect()
+}
+
+/// The words of a case and of its answer.
+fn words(case: &Record) -> Vec<u64> {
+    let (answer, _) = calls::answer(case);
+    match case.call {
+        "norm_l2" => {
+            [vec![case.l("x").len() as u64], padded(case.l("x"), NORM_PLACES), vec![answer.f("r").to_bits()]].concat()
+        }
+        "make_householder_in_place" => reflection(case, &answer),
+        _ => floats(case).chain(floats(&answer)).collect(),
+    }
+}
+
+fn floats(record: &Record) -> impl Iterator<Item = u64> {
+    record.fields.iter().filter_map(|(_, value)| if let Value::Float(x) = value { Some(x.to_bits()) } else { None })
+}
+
+fn padded(list: &[f64], places: usize) -> Vec<u64> {
+    let mut words: Vec<u64> = list.iter().map(|x| x.to_bits()).collect();
+    words.resize(places, 0);
+    words
+}
+
+/// Turned away, the four results are zero words.
+fn reflection(case: &Record, answer: &Record) -> Vec<u64> {
+    let given =
+        [vec![case.l("tail").len() as u64, case.f("head").to_bits()], padded(case.l("tail"), TAIL_PLACES)].concat();
+    let mut results: Vec<u64> = floats(answer).collect();
+    results.resize(calls::REFLECTION.len(), 0);
+    [given, vec![answer.n("answer") as u64], results, padded(answer.l("tail"), TAIL_PLACES)].concat()
+}
