@@ -8,13 +8,15 @@ use Rattle.model.specs.Root.{sqrt}
 
 -- ---- how a test is written
 
--- the value of a pattern, and the pattern of a value
+-- the f64 of pattern b
 abbrev of : ℕ → Float
 of b = ofBits binary64 b
 
+-- x is the f64 of pattern b
 abbrev is : Float → ℕ → Bool
 is x b = eqb (toBits binary64 x) b
 
+-- every test of a list holds
 abbrev all : List Bool → Bool
 all [] = true
 all (t ∷ ts) = t && all ts
