@@ -1,14 +1,16 @@
 -- One exchange more on the way of a move. Assumes nothing.
 use mathlib.Core.Path.{_≡_, refl, sym, ap, _∙_, subst}
-use Prim.Native.Nat.{ℕ, _+_, _-_}
+use Prim.Native.Nat.{ℕ, _+_, _-_, _≤_, _<_}
 use mathlib.Core.Bool.{true, false, _&&_, cond}
-use mathlib.Core.List.{List}
+use mathlib.Core.List.{List, []}
 use lib.Dec.{eqb}
 use lib.ListN.{length}
 use lib.Ieee.{Float, binary64}
-use borrow.Author.Tests.{ne-eqb}
+use borrow.Author.Tests.{eq-eqb, ne-eqb, lt-ltb, le-ltb}
 use Rattle.model.specs.Form.{zeroBelow}
-use Rattle.model.specs.Exchange.{exchange}
+use Rattle.model.specs.Columns.{onFactor}
+use Rattle.model.specs.Swaps.{Change, unchanged}
+use Rattle.model.specs.Exchange.{Exchanged, exchanged, exchange}
 use Rattle.model.specs.Move as Move
 use Rattle.schur.specs.Done.{Step}
 use Rattle.schur.specs.Stands.{Stands, rows}
@@ -107,3 +109,33 @@ rows-three e = rw e
 pub rows-else : (b : ℕ) → (b ≡ 3 → ⊥) → rows b ≡ b
 unfolding rows
 rows-else b e = rw (ne-eqb b 3 e)
+
+-- ---- the whole move
+abbrev start : ℕ → List Float → ℕ → Move.Moving
+start n t from = record { here = from; nbf = Move.sizeAt binary64 n n t from; change = unchanged t; exchanges = [] }
+
+pub starts : (n : ℕ) (u t : List Float) (from nbf : ℕ) → nbf ≡ Move.sizeAt binary64 n n t from → Stands n u t u from nbf 0 0 (start n t from)
+unfolding onFactor
+starts n u t from nbf e = record { here = refl; nbf = e; step = record { done = record { form = refl; factor = refl }; swaps = refl; declined = refl }; kept = refl }
+
+module _ (n from to : ℕ) (t : List Float) where
+  pub stays-is : from ≡ to → start n t from ≡ Move.moveFrom binary64 n n from to t
+  unfolding Move.moveFrom
+  stays-is e = rw (eq-eqb from to e)
+
+  pub goes-down : (from ≡ to → ⊥) → from < to → (nbf nbl goal : ℕ) → nbf ≡ Move.sizeAt binary64 n n t from → nbl ≡ Move.sizeAt binary64 n n t to → goal ≡ Move.goalDown nbf nbl to
+      → Move.downBy n binary64 n n goal (start n t from) ≡ Move.moveFrom binary64 n n from to t
+  unfolding Move.moveFrom
+  goes-down d l nbf nbl goal a b g = rw (ne-eqb from to d, lt-ltb from to l, g, a, b)
+
+  pub goes-up : (from ≡ to → ⊥) → to ≤ from → Move.upBy n binary64 n n to (start n t from) ≡ Move.moveFrom binary64 n n from to t
+  unfolding Move.moveFrom
+  goes-up d l = rw (ne-eqb from to d, le-ltb from to l)
+
+pub ended : {n : ℕ} {u t₁ u₁ : List Float} {h b s d : ℕ} {M : Move.Moving} → Stands n u t₁ u₁ h b s d M
+    → _≡_ {A = Move.Moved} (record { answer = 0; landed = h; swaps = s; declined = d; form = t₁; factor = u₁ }) (Move.moved binary64 n n u M)
+ended a = rw (a .here, a .step .swaps, a .step .declined, a .step .done .form, a .step .done .factor)
+
+pub ended-exchange : {n : ℕ} {u t₁ u₁ : List Float} {s d : ℕ} {c : Change} → Step n u t₁ u₁ s d c
+    → _≡_ {A = Exchanged} (record { answer = 0; swaps = s; declined = d; form = t₁; factor = u₁ }) (exchanged binary64 n n u c)
+ended-exchange a = rw (a .swaps, a .declined, a .done .form, a .done .factor)

@@ -3,3 +3,4 @@ pub mod Run
 pub mod Done
 pub mod Forms
 pub mod Stands
+pub mod Lines

@@ -7,7 +7,6 @@ ghost use Rattle.model.specs.Form as Form;
 ghost use Rattle.model.specs.Move as Move;
 ghost use Rattle.model.specs.Exchange as Exchange;
 ghost use Rattle.schur.specs.Run.{Sized};
-
 use crate::places::get;
 
 // Whether the entry just below the diagonal in column j is zero: a NaN is not, minus zero is.

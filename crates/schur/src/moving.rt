@@ -6,8 +6,9 @@ ghost use lib.Ieee.{Float, binary64};
 ghost use Rattle.model.specs.Move as Move;
 ghost use Rattle.schur.specs.Run.{Sized, Beside, Rows};
 ghost use Rattle.schur.specs.Stands.{Stands, Way, Went, rows};
-
-use crate::blocks::{size_above, size_at, zero_below};
+use crate::blocks::size_above;
+use crate::blocks::size_at;
+use crate::blocks::zero_below;
 use crate::exchange::exchange;
 
 // The moved block's row, nbf (1 for one row, 2 for a 2-block, 3 for a 2-block that has split and
@@ -20,7 +21,15 @@ pub struct Moving {
 }
 
 // One exchange more.
-fn exchanging(t: &mut [f64], u: &mut [f64], n: usize, j: usize, n1: usize, n2: usize, m: Moving) -> Moving
+fn exchanging(
+    t: &mut [f64],
+    u: &mut [f64],
+    n: usize,
+    j: usize,
+    n1: usize,
+    n2: usize,
+    m: Moving,
+) -> Moving
     requires { ⌜ Sized n (now t) × Beside n (now u) × Rows n j n1 n2 × (m .swaps ≤ 2000) × (m .declined ≤ 2000) ⌝ }
     ensures stands { λ r. ⌜ ((u₀ : List Float) (M : Move.Moving) → Stands n u₀ (now (t .entry)) (now (u .entry)) (m .here) (m .nbf) (m .swaps) (m .declined) M → Stands n u₀ (now (t .exit)) (now (u .exit)) (r .here) (r .nbf) (r .swaps) (r .declined) (Move.exchanging binary64 n n j n1 n2 M)) ⌝ }
     ensures counts { λ r. ⌜ (r .here ≡ m .here) × (r .nbf ≡ m .nbf) × (r .swaps ≤ m .swaps + 4) × (r .declined ≤ m .declined + 4) ⌝ }

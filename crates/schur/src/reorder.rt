@@ -7,9 +7,13 @@ ghost use lib.Ieee.{Float, binary64};
 ghost use Rattle.model.specs.Move as Move;
 ghost use Rattle.schur.specs.Run.{Sized, Beside};
 ghost use Rattle.schur.specs.Stands.{Stands, Way, rows};
-
-use crate::blocks::{first_row, size_at};
-use crate::moving::{Moving, down_step, up_step};
+ghost use Rattle.schur.specs.View.{moved};
+use crate::blocks::first_row;
+use crate::blocks::size_at;
+use crate::lines::move_line;
+use crate::moving::Moving;
+use crate::moving::down_step;
+use crate::moving::up_step;
 
 // Down until the goal is reached.
 fn move_down(t: &mut [f64], u: &mut [f64], n: usize, goal: usize, m: Moving) -> Moving
@@ -38,18 +42,17 @@ fn move_up(t: &mut [f64], u: &mut [f64], n: usize, goal: usize, m: Moving) -> Mo
 // Going down, a 2-block's goal is a row less against a single row, and a single row's a row more
 // against a 2-block.
 fn goal_down(nbf: usize, nbl: usize, to: usize) -> usize
-    requires { ⌜ (1 ≤ to) × (to ≤ 64) ⌝ }
-    ensures { λ r. ⌜ r ≡ Move.goalDown nbf nbl to ⌝ }
+    requires { ⌜ (1 ≤ to) × (to ≤ 64) × (nbf ≤ 2) × (nbl ≤ 2) × (1 ≤ nbf) × (1 ≤ nbl) ⌝ }
+    ensures { λ r. ⌜ (r ≡ Move.goalDown nbf nbl to) × (r + nbf ≤ to + nbl) ⌝ }
 {
     if nbf == 2 {
         if nbl == 1 {
             return to - 1;
         }
+        return to;
     }
-    if nbf == 1 {
-        if nbl == 2 {
-            return to + 1;
-        }
+    if nbl == 2 {
+        return to + 1;
     }
     to
 }
@@ -84,4 +87,28 @@ pub struct Moved {
     pub landed: usize,
     pub swaps: usize,
     pub declined: usize,
+}
+
+// The move of the block in row `from` to row `to`.
+pub fn reorder_schur(n: usize, t: &mut [f64], u: &mut [f64], from: usize, to: usize) -> Moved
+    ensures { λ r. ⌜ moved r (now (t .exit)) (now (u .exit)) ≡ Move.moveCall binary64 n n (now (t .entry)) (now (u .entry)) from to ⌝ }
+{
+    let line = move_line(n, &*t, &*u, from, to);
+    if line != 0 {
+        return Moved {
+            answer: line,
+            landed: 0,
+            swaps: 0,
+            declined: 0,
+        };
+    }
+    let a = first_row(&*t, n, from);
+    let b = first_row(&*t, n, to);
+    let m = move_from(&mut *t, &mut *u, n, a, b);
+    Moved {
+        answer: 0,
+        landed: m.here,
+        swaps: m.swaps,
+        declined: m.declined,
+    }
 }
