@@ -1,0 +1,4 @@
+pub mod Left
+pub mod Safe
+pub mod Within
+pub mod WorkedSchur22
