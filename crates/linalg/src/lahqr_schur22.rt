@@ -38,6 +38,7 @@ pub struct Block {
     pub sn: f64,
 }
 
+// A block made standard, and its pair.
 pub struct Standardised {
     pub block: Block,
     pub eigenvalues: Eigenvalues,
@@ -91,6 +92,7 @@ fn bcmin_of(b: f64, c: f64) -> f64
     if unlike_signs(b, c) { -bcmin } else { bcmin }
 }
 
+// The number that decides: two real numbers where it is at least 4 eps.
 fn z_of(p: f64, scale: f64, bcmax: f64, bcmin: f64) -> f64
     ensures { λ r. ⌜ r ≡ Schur22.zOf binary64 p scale bcmax bcmin ⌝ }
 {
@@ -105,7 +107,7 @@ fn shift_of(p: f64, scale: f64, z: f64) -> f64
     if p < 0.0 { p + -t } else { p + t }
 }
 
-// Two real numbers, z at least 4 eps.
+// Two real numbers, z now the shift.
 fn apart(b: f64, c: f64, d: f64, z: f64, bcmax: f64, bcmin: f64) -> Block
     ensures { λ r. ⌜ block r ≡ Schur22.apart binary64 b c d z bcmax bcmin ⌝ }
 {
@@ -127,6 +129,7 @@ fn scale_of(s: Scaled) -> f64
     fmax(abs(s.temp), abs(s.sigma))
 }
 
+// Whether the scale meets the upper bound or the lower.
 fn bound_met(scale: f64) -> bool
     ensures { λ r. ⌜ r ≡ Schur22.boundMet binary64 scale ⌝ }
 {
@@ -172,12 +175,14 @@ fn rescaled(sigma: f64, temp: f64) -> Scaled
     }
 }
 
+// The cosine that makes the diagonal equal.
 fn cs_of(sigma: f64, tau: f64) -> f64
     ensures { λ r. ⌜ r ≡ Schur22.csOf binary64 sigma tau ⌝ }
 {
     sqrt(mul_pow2(1.0 + abs(sigma) / tau, 0.5))
 }
 
+// Its sine, negated where sigma is below zero.
 fn sn_of(sigma: f64, p: f64, tau: f64, cs: f64) -> f64
     ensures { λ r. ⌜ r ≡ Schur22.snOf binary64 sigma p tau cs ⌝ }
 {
@@ -243,6 +248,7 @@ fn split(x: Block) -> Block
     }
 }
 
+// The block, split where it splits.
 fn split_if(x: Block) -> Block
     ensures { λ r. ⌜ block r ≡ Schur22.splitIf binary64 (block x) ⌝ }
 {
@@ -286,6 +292,7 @@ fn is_standard(a: f64, b: f64, c: f64, d: f64) -> bool
     false
 }
 
+// The new numbers and the rotation.
 fn standard(a: f64, b: f64, c: f64, d: f64) -> Block
     ensures { λ r. ⌜ block r ≡ Schur22.standard binary64 a b c d ⌝ }
 {

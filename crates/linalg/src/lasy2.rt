@@ -33,6 +33,7 @@ struct Solution {
     scale: f64,
 }
 
+// Two numbers exchanged; with itself, nothing changes. Rows and columns below likewise.
 fn swap_places(r: [f64; 4], i: usize, j: usize) -> [f64; 4]
     requires { ⌜ (i < 4) × (j < 4) ⌝ }
     ensures { λ r'. ⌜ r' ≡ Lasy2.swapPlaces r i j ⌝ }
@@ -71,6 +72,7 @@ fn largest(m: f64, x: f64, y: f64, z: f64) -> f64
     fmax(fmax(fmax(m, abs(x)), abs(y)), abs(z))
 }
 
+// 2^-970.
 fn smlnum() -> f64
     ensures { λ r. ⌜ r ≡ Lasy2.smlnum binary64 ⌝ }
 {
@@ -86,6 +88,7 @@ fn smin_of(tl: [[f64; 2]; 2], tr: [[f64; 2]; 2]) -> f64
     fmax(EPS * m, smlnum())
 }
 
+// The system of tl * x - x * tr, for x column after column.
 fn t16_of(tl: [[f64; 2]; 2], tr: [[f64; 2]; 2]) -> [[f64; 4]; 4]
     ensures { λ r. ⌜ r ≡ Lasy2.t16Of binary64 tl tr ⌝ }
 {
@@ -225,6 +228,7 @@ fn exceeds(t: f64, b: f64) -> bool
     (8.0 * smlnum()) * abs(b) > abs(t)
 }
 
+// Whether that holds in any row.
 fn too_large(t: [[f64; 4]; 4], b: [f64; 4]) -> bool
     ensures { λ r. ⌜ r ≡ Lasy2.tooLarge binary64 t b ⌝ }
 {
@@ -240,6 +244,7 @@ fn too_large(t: [[f64; 4]; 4], b: [f64; 4]) -> bool
     exceeds(t[3][3], b[3])
 }
 
+// Each number times k.
 fn times(b: [f64; 4], k: f64) -> [f64; 4]
     ensures { λ r. ⌜ r ≡ Lasy2.times binary64 b k ⌝ }
 {

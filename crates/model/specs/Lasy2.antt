@@ -44,6 +44,7 @@ unfoldable pub sminOf : Format → List (List Float) → List (List Float) → F
 sminOf f tl tr =
     fmax (mul f (epsOf f) (largest (fmax (largest (abs (at tr 0 0)) (at tr 0 1) (at tr 1 0) (at tr 1 1)) (abs (at tl 0 0))) (at tl 0 1) (at tl 1 0) (at tl 1 1))) (smlnum f)
 
+-- the system of tl * x - x * tr, for x column after column
 unfoldable pub t16Of : Format → List (List Float) → List (List Float) → List (List Float)
 t16Of f tl tr =
     four
@@ -122,6 +123,7 @@ pub record Solution : Type 0 where
   pub x : List Float
   pub scale : Float
 
+-- b is so large that it has to be scaled down before it is divided by t
 unfoldable pub exceeds : Format → Float → Float → Bool
 exceeds f t b = lt (abs t) (mul f (mul f (eightOf f) (smlnum f)) (abs b))
 
@@ -131,6 +133,7 @@ tooLarge f t b = exceeds f (at t 0 0) (num b 0) || (exceeds f (at t 1 1) (num b 
 unfoldable pub times : Format → List Float → Float → List Float
 times f b k = four (mul f (num b 0) k) (mul f (num b 1) k) (mul f (num b 2) k) (mul f (num b 3) k)
 
+-- with its scale, 1 where no row is too large
 unfoldable pub scaledRhs : Format → List (List Float) → List Float → Solution
 scaledRhs f t b =
     let scale = div f (eighthOf f) (largest (abs (num b 0)) (num b 1) (num b 2) (num b 3)) in
@@ -147,6 +150,7 @@ entryFrom f r x temp (suc k) j s = entryFrom f r x temp k (j + 1) (sub f s (mul 
 unfoldable pub entryAt : Format → List (List Float) → List Float → ℕ → List Float → List Float
 entryAt f t b k x = let temp = recip f (at t k k) in set x k (entryFrom f (row t k) x temp (4 - (k + 1)) (k + 1) (mul f (num b k) temp))
 
+-- from the last row up
 unfoldable pub back : Format → List (List Float) → List Float → List Float
 back f t b = entryAt f t b 0 (entryAt f t b 1 (entryAt f t b 2 (entryAt f t b 3 (four (zeroOf f) (zeroOf f) (zeroOf f) (zeroOf f)))))
 

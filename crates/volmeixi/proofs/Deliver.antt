@@ -11,7 +11,7 @@ use lib.Ieee.Fits.{eq→eqb}
 use lib.Ieee.Bits.{is-true}
 use lib.ListN.{length, take, drop, drop-of-length-le}
 use lib.Seq.{sets, sets-eq}
-use Rattle.volmeixi.specs.Lent.{LentReflection, deliver}
+use Rattle.volmeixi.specs.Lent.{Lent, LentReflection, deliver}
 
 pub all-set : (vs l : List Float) → length l ≡ length vs → sets l 0 vs ≡ vs
 all-set vs l h =
@@ -41,3 +41,7 @@ refused results out h = rw (eqb-no (length out) (length results) h)
 pub reflected : (tail results out : List Float) → length out ≡ length results
     → _≡_ {A = LentReflection} (record { answer = 0; tail = tail; out = sets out 0 results }) (record { answer = 0; tail = tail; out = results })
 reflected tail results out h = rw (all-set results out h)
+
+pub held : (n : ℕ) (results out : List Float) → length out ≡ length results
+    → _≡_ {A = Lent} (record { answer = n; out = sets out 0 results }) (record { answer = n; out = results })
+held n results out h = rw (all-set results out h)
