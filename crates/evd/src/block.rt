@@ -1,0 +1,37 @@
+// What the calls share: the lines with a further buffer, places of a square, a 2-block's size.
+ghost use mathlib.Core.Path.{_≡_};
+ghost use mathlib.Core.Bool.{Bool, cond};
+ghost use Prim.Native.Nat.{_+_, _*_, _<_, _≤_};
+ghost use lib.Dec.{eqb};
+ghost use lib.Ieee.{binary64};
+ghost use Rattle.model.specs.Values as Values;
+use arith::real::abs;
+use arith::sqrt::sqrt;
+
+// The first line that applies, of the line of a form alone and of a further buffer's length.
+pub fn with_further(line: usize, wrong: bool) -> usize
+    ensures { λ r. ⌜ r ≡ cond (eqb line 2) 2 (cond (eqb line 3) 3 (cond wrong 4 line)) ⌝ }
+{
+    if line == 2 {
+        return 2;
+    }
+    if line == 3 {
+        return 3;
+    }
+    if wrong { 4 } else { line }
+}
+
+// Where row i, column j stands in a square of n rows, its columns ld apart.
+pub fn spot(ld: usize, n: usize, i: usize, j: usize) -> usize
+    requires { ⌜ (ld ≤ 128) × (n ≤ 64) × (i < n) × (j < n) ⌝ }
+    ensures { λ r. ⌜ (r ≡ i + ld * j) × (r + ld < n + ld * n) ⌝ }
+{
+    i + ld * j
+}
+
+// The imaginary size of a 2-block with these numbers off its diagonal.
+pub fn imag_size(lower: f64, upper: f64) -> f64
+    ensures { λ r. ⌜ r ≡ Values.imagSize binary64 lower upper ⌝ }
+{
+    sqrt(abs(lower)) * sqrt(abs(upper))
+}

@@ -1,0 +1,3 @@
+// Block values, vectors and a column of them. The dots and the solvers serve inside.
+mod block;
+mod dots;
