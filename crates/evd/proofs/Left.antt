@@ -14,3 +14,6 @@ left-one i m h = omega arith
 
 pub left-none : (i m : ℕ) → m ≤ i → m - i ≡ zero
 left-none i m h = omega arith
+
+pub le-zero : {m : ℕ} → m ≤ 0 → m ≡ zero
+le-zero h = omega arith

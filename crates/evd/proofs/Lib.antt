@@ -1,3 +1,4 @@
 pub mod Places
 pub mod Left
 pub mod Sums
+pub mod Blocks

@@ -1,3 +1,4 @@
 // Block values, vectors and a column of them. The dots and the solvers serve inside.
 mod block;
 mod dots;
+mod solve_real;

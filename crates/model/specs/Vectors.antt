@@ -68,9 +68,13 @@ realTwo f ld a p n i x =
     let inv = recip f (sub f (abs2 f d) (mul f b c)) in
     set (set x i (mul f (sub f (mul f d r0) (mul f b r1)) inv)) (i + 1) (mul f (sub f (mul f d r1) (mul f c r0)) inv)
 
+-- the first `rows` of the n rows
+abbrev pub realRows : Format → ℕ → List Float → Float → Float → ℕ → ℕ → List Float → List Float
+realRows f ld a p norm n rows x = blocksDown f ld a (realOne f ld a p norm n) (realTwo f ld a p n) rows x
+
 unfoldable pub solveReal : Format → ℕ → List Float → Float → Float → ℕ → List Float → List Float
 unfolding blocksDown realOne realTwo
-solveReal f ld a p norm n x = blocksDown f ld a (realOne f ld a p norm n) (realTwo f ld a p n) n x
+solveReal f ld a p norm n x = realRows f ld a p norm n n x
 
 -- ---- the complex solver: (A - p - q i) x = b in place
 
@@ -134,9 +138,13 @@ cplxTwo f ld a p q norm n i x =
     let w = inverse f norm (determinant f s b c) in
     complexSet ld (complexSet ld x i (times f (lessTimes f (times f s r0) b r1) w)) (i + 1) (times f (lessTimes f (times f s r1) c r0) w)
 
+-- the first `rows` of the n rows
+abbrev pub cplxRows : Format → ℕ → List Float → Float → Float → Float → ℕ → ℕ → List Float → List Float
+cplxRows f ld a p q norm n rows x = blocksDown f ld a (cplxOne f ld a p q norm n) (cplxTwo f ld a p q norm n) rows x
+
 unfoldable pub solveCplx : Format → ℕ → List Float → Float → Float → Float → ℕ → List Float → List Float
 unfolding blocksDown cplxOne cplxTwo
-solveCplx f ld a p q norm n x = blocksDown f ld a (cplxOne f ld a p q norm n) (cplxTwo f ld a p q norm n) n x
+solveCplx f ld a p q norm n x = cplxRows f ld a p q norm n n x
 
 -- ---- the sum of magnitudes down to the subdiagonal, column after column
 
@@ -209,10 +217,14 @@ cplxColumns f ld t norm j v =
 
 -- ---- the calls
 
+-- the columns of the first so many rows' blocks
+abbrev pub columnsOf : Format → ℕ → List Float → Float → ℕ → List Float → List Float
+columnsOf f ld t norm rows v = blocksDown f ld t (realColumn f ld t norm) (cplxColumns f ld t norm) rows v
+
 -- all columns of an accepted form
 unfoldable pub vectorsOf : Format → ℕ → ℕ → List Float → List Float → List Float
 unfolding formNorm blocksDown realColumn cplxColumns
-vectorsOf f ld n t v = let norm = formNorm f ld n t in blocksDown f ld t (realColumn f ld t norm) (cplxColumns f ld t norm) n v
+vectorsOf f ld n t v = columnsOf f ld t (formNorm f ld n t) n v
 
 -- the answer, and what the vectors then hold
 pub record Vectors : Type 0 where
