@@ -1,4 +1,5 @@
 // Block values, vectors and a column of them. The dots and the solvers serve inside.
 mod block;
 mod dots;
+mod solve_cplx;
 mod solve_real;

@@ -82,20 +82,19 @@ pub record Complex : Type 0 where
   pub re : Float
   pub im : Float
 
-abbrev pub times : Format → Complex → Complex → Complex
+unfoldable pub times : Format → Complex → Complex → Complex
 times f x y = record { re = sub f (mul f (x .re) (y .re)) (mul f (x .im) (y .im)); im = add f (mul f (x .re) (y .im)) (mul f (x .im) (y .re)) }
 
 -- x - k * y
-abbrev pub lessTimes : Format → Complex → Float → Complex → Complex
+unfoldable pub lessTimes : Format → Complex → Float → Complex → Complex
 lessTimes f x k y = record { re = sub f (x .re) (mul f k (y .re)); im = sub f (x .im) (mul f k (y .im)) }
 
 -- the reciprocal of a number whose modulus is z
-abbrev pub inverseBy : Format → Complex → Float → Complex
+unfoldable pub inverseBy : Format → Complex → Float → Complex
 inverseBy f w z = record { re = div f (div f (w .re) z) z; im = div f (div f (neg (w .im)) z) z }
 
 -- a number whose modulus is below eps * norm is replaced
 unfoldable pub inverse : Format → Float → Complex → Complex
-unfolding hypot
 inverse f norm w =
     cond (lt (hypot f (w .re) (w .im)) (least f norm)) (inverseBy f (record { re = least f norm; im = zeroOf f }) (least f norm))
     (inverseBy f w (hypot f (w .re) (w .im)))
@@ -104,39 +103,45 @@ inverse f norm w =
 abbrev pub complexAt : ℕ → List Float → ℕ → Complex
 complexAt ld x i = record { re = at x i; im = at x (ld + i) }
 
-abbrev pub complexSet : ℕ → List Float → ℕ → Complex → List Float
+unfoldable pub complexSet : ℕ → List Float → ℕ → Complex → List Float
 complexSet ld x i w = set (set x i (w .re)) (ld + i) (w .im)
 
 abbrev pub complexSub : Format → Complex → Float → Float → Complex
 complexSub f x re im = record { re = sub f (x .re) re; im = sub f (x .im) im }
 
 unfoldable pub cplxOne : Format → ℕ → List Float → Float → Float → Float → ℕ → ℕ → List Float → List Float
-unfolding splitProd inverse
 cplxOne f ld a p q norm n i x =
     let row = strided a (place ld i (i + 1)) ld in
     let r = complexSub f (complexAt ld x i) (splitProd f (strided x (i + 1) 1) row (n - (i + 1))) (splitProd f (strided x (ld + (i + 1)) 1) row (n - (i + 1))) in
     complexSet ld x i (times f r (inverse f norm (record { re = sub f (entry ld a i i) p; im = neg q })))
 
 -- the determinant of the 2-block less (p, q) on its diagonal, which is s there in both rows
-abbrev pub determinant : Format → Complex → Float → Float → Complex
+unfoldable pub determinant : Format → Complex → Float → Float → Complex
 determinant f s b c = record { re = sub f (sub f (abs2 f (s .re)) (abs2 f (s .im))) (mul f b c); im = mulPow2 f (mul f (s .re) (s .im)) (twoOf f) }
+
+-- two rows of the two columns
+pub record Rows : Type 0 where
+  pub upper : Complex
+  pub lower : Complex
+
+-- the 2-block's own system: s twice on the diagonal, b above and c below it, r on the right
+unfoldable pub solvePair : Format → Float → Complex → Float → Float → Rows → Rows
+solvePair f norm s b c r =
+    let w = inverse f norm (determinant f s b c) in
+    record { upper = times f (lessTimes f (times f s (r .upper)) b (r .lower)) w; lower = times f (lessTimes f (times f s (r .lower)) c (r .upper)) w }
+
+-- row i less its inner products with the rows from j on
+unfoldable pub cplxRest : Format → ℕ → List Float → ℕ → List Float → ℕ → ℕ → Complex
+cplxRest f ld a n x i j =
+    let row = strided a (place ld i j) ld in
+    complexSub f (complexAt ld x i) (innerProd f row (strided x j 1) (n - j)) (innerProd f row (strided x (ld + j) 1) (n - j))
 
 -- rows i and i + 1
 unfoldable pub cplxTwo : Format → ℕ → List Float → Float → Float → Float → ℕ → ℕ → List Float → List Float
-unfolding innerProd inverse
 cplxTwo f ld a p q norm n i x =
-    let k = n - (i + 2) in
-    let row0 = strided a (place ld i (i + 2)) ld in
-    let row1 = strided a (place ld (i + 1) (i + 2)) ld in
-    let re = strided x (i + 2) 1 in
-    let im = strided x (ld + (i + 2)) 1 in
-    let r0 = complexSub f (complexAt ld x i) (innerProd f row0 re k) (innerProd f row0 im k) in
-    let r1 = complexSub f (complexAt ld x (i + 1)) (innerProd f row1 re k) (innerProd f row1 im k) in
-    let s : Complex = record { re = sub f (entry ld a (i + 1) (i + 1)) p; im = neg q } in
-    let b = entry ld a i (i + 1) in
-    let c = entry ld a (i + 1) i in
-    let w = inverse f norm (determinant f s b c) in
-    complexSet ld (complexSet ld x i (times f (lessTimes f (times f s r0) b r1) w)) (i + 1) (times f (lessTimes f (times f s r1) c r0) w)
+    let r : Rows = record { upper = cplxRest f ld a n x i (i + 2); lower = cplxRest f ld a n x (i + 1) (i + 2) } in
+    let y = solvePair f norm (record { re = sub f (entry ld a (i + 1) (i + 1)) p; im = neg q }) (entry ld a i (i + 1)) (entry ld a (i + 1) i) r in
+    complexSet ld (complexSet ld x i (y .upper)) (i + 1) (y .lower)
 
 -- the first `rows` of the n rows
 abbrev pub cplxRows : Format → ℕ → List Float → Float → Float → Float → ℕ → ℕ → List Float → List Float
