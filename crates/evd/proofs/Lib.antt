@@ -2,3 +2,5 @@ pub mod Places
 pub mod Left
 pub mod Sums
 pub mod Blocks
+pub mod Lines
+pub mod Part

@@ -15,6 +15,9 @@ row ld n i j h k =
     let m : ld * (j + (n - j)) ≡ ld * n = ap (λ (e : ℕ). ld * e) (omega arith) in
     omega (arith, sym (mul-add ld j (n - j)) ∙ m)
 
+pub top : (ld n j : ℕ) → j < n → ld * j + ld ≤ ld * n
+top ld n j h = let m : ld * suc j ≤ ld * n = mul-le-mul-left ld h in omega arith
+
 -- a square's size fits
 pub small : (ld n : ℕ) → ld ≤ 128 → n ≤ 64 → ld * n ≤ 8192
 small ld n h k = mul-le-mul h k

@@ -39,6 +39,14 @@ pub fn row(ld: usize, n: usize, i: usize, j: usize) -> usize
     i + ld * j
 }
 
+// Where column j starts in a form of n columns, ld places apart.
+pub fn top(ld: usize, n: usize, j: usize) -> usize
+    requires { ⌜ (ld ≤ 128) × (n ≤ 64) × (j < n) ⌝ }
+    ensures { λ r. ⌜ (r ≡ ld * j) × (r + ld ≤ ld * n) ⌝ }
+{
+    ld * j
+}
+
 // The numbers of a 2-block that a solver reads: the lower diagonal number, b above and c below.
 pub struct Block {
     pub d: f64,

@@ -3,3 +3,4 @@ mod block;
 mod dots;
 mod solve_cplx;
 mod solve_real;
+pub mod vectors;

@@ -18,7 +18,7 @@ use arith::real::abs2;
 use arith::real::mul_pow2;
 
 // A complex number.
-pub struct Complex {
+struct Complex {
     pub re: f64,
     pub im: f64,
 }

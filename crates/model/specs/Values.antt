@@ -11,13 +11,15 @@ use Rattle.model.specs.Form.{entry, nonzeroBelow, line2, line3, line5, l
 
 -- the first line that applies to a form and a further buffer, of which it is told whether its length is wrong, or 0
 unfoldable pub furtherLine : Format → ℕ → ℕ → List Float → Bool → ℕ
-unfolding line2 line3 line5 line6
 furtherLine f ld n t wrong = cond (line2 n) 2 (cond (line3 ld n t) 3 (cond wrong 4 (cond (line5 f ld n t) 5 (cond (line6 f ld n t) 6 0))))
 
 -- the imaginary size of the 2-block whose numbers off the diagonal these are
 unfoldable pub imagSize : Format → Float → Float → Float
-unfolding abs sqrt
 imagSize f lower upper = mul f (sqrt f (abs lower)) (sqrt f (abs upper))
+
+-- that of the 2-block in rows j and j + 1
+abbrev pub sizeAt : Format → ℕ → List Float → ℕ → Float
+sizeAt f ld t j = imagSize f (entry ld t (j + 1) j) (entry ld t j (j + 1))
 
 -- the two buffers
 pub record Parts : Type 0 where
@@ -30,15 +32,13 @@ oneValue f ld t j s = record { re = set (s .re) j (entry ld t j j); im = set (s 
 
 -- a 2-block in rows j and j + 1: the first diagonal number twice, with m and then -m
 unfoldable pub twoValues : Format → ℕ → List Float → ℕ → Parts → Parts
-unfolding imagSize
 twoValues f ld t j s =
     let x = entry ld t j j in
-    let m = imagSize f (entry ld t (j + 1) j) (entry ld t j (j + 1)) in
+    let m = sizeAt f ld t j in
     record { re = set (set (s .re) (j + 1) x) j x; im = set (set (s .im) (j + 1) (neg m)) j m }
 
 -- the values of the last so many rows, of which j is the first
 unfoldable pub valuesFrom : Format → ℕ → List Float → ℕ → ℕ → Parts → Parts
-unfolding oneValue twoValues
 valuesFrom f ld t zero j s = s
 valuesFrom f ld t (suc zero) j s = oneValue f ld t j s
 valuesFrom f ld t (suc (suc k)) j s =
@@ -50,11 +50,9 @@ pub record Values : Type 0 where
   pub parts : Parts
 
 unfoldable pub valuesLine : Format → ℕ → ℕ → List Float → Parts → ℕ
-unfolding furtherLine
 valuesLine f ld n t s = furtherLine f ld n t (not (eqb (length (s .re)) n) || not (eqb (length (s .im)) n))
 
 -- the call: turned away, it leaves the buffers
 unfoldable pub blockValues : Format → ℕ → ℕ → List Float → Parts → Values
-unfolding valuesLine valuesFrom
 blockValues f ld n t s =
     cond (eqb (valuesLine f ld n t s) 0) (record { answer = 0; parts = valuesFrom f ld t n 0 s }) (record { answer = valuesLine f ld n t s; parts = s })

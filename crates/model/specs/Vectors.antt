@@ -8,7 +8,7 @@ use lib.ListN.{length, set, take, drop}
 use lib.Ieee.{Float, Format, neg, add, sub, mul, div, lt, le, ne}
 use Rattle.model.specs.Arith.{zeroOf, oneOf, twoOf, epsOf, abs, abs1, abs2, recip, mulPow2, hypot, innerProd}
 use Rattle.model.specs.Form.{place, at, entry, zeroBelow, line2, line7}
-use Rattle.model.specs.Values.{furtherLine, imagSize}
+use Rattle.model.specs.Values.{furtherLine, sizeAt}
 
 -- ---- dots
 
@@ -25,7 +25,6 @@ splitFrom f x y (suc (suc k)) i even odd =
 
 -- dot2x1 gives two of these, of two rows with one; dot2x2 gives four times `innerProd`
 unfoldable pub splitProd : Format → (ℕ → Float) → (ℕ → Float) → ℕ → Float
-unfolding splitFrom
 splitProd f x y k = splitFrom f x y k 0 (zeroOf f) (zeroOf f)
 
 -- ---- the blocks of the first so many rows, the last block first, each by its own step: `one` at a 1-block's row, `two` at a 2-block's first row
@@ -43,7 +42,6 @@ least f norm = mul f (epsOf f) norm
 
 -- a divisor below eps * norm in magnitude is replaced
 unfoldable pub divisor : Format → Float → Float → Float
-unfolding abs
 divisor f norm z = cond (lt (abs z) (least f norm)) (least f norm) z
 
 -- divided only where it is not zero
@@ -51,14 +49,12 @@ unfoldable pub divided : Format → Float → Float → Float
 divided f x z = cond (ne x (zeroOf f)) (div f x z) x
 
 unfoldable pub realOne : Format → ℕ → List Float → Float → Float → ℕ → ℕ → List Float → List Float
-unfolding innerProd divided divisor
 realOne f ld a p norm n i x =
     let dot = innerProd f (strided a (place ld i (i + 1)) ld) (strided x (i + 1) 1) (n - (i + 1)) in
     set x i (divided f (sub f (at x i) dot) (divisor f norm (sub f (entry ld a i i) p)))
 
 -- rows i and i + 1: the diagonal number of the lower row serves for both
 unfoldable pub realTwo : Format → ℕ → List Float → Float → ℕ → ℕ → List Float → List Float
-unfolding splitProd
 realTwo f ld a p n i x =
     let r0 = sub f (at x i) (splitProd f (strided a (place ld i (i + 2)) ld) (strided x (i + 2) 1) (n - (i + 2))) in
     let r1 = sub f (at x (i + 1)) (splitProd f (strided a (place ld (i + 1) (i + 2)) ld) (strided x (i + 2) 1) (n - (i + 2))) in
@@ -73,7 +69,6 @@ abbrev pub realRows : Format → ℕ → List Float → Float → Float → ℕ 
 realRows f ld a p norm n rows x = blocksDown f ld a (realOne f ld a p norm n) (realTwo f ld a p n) rows x
 
 unfoldable pub solveReal : Format → ℕ → List Float → Float → Float → ℕ → List Float → List Float
-unfolding blocksDown realOne realTwo
 solveReal f ld a p norm n x = realRows f ld a p norm n n x
 
 -- ---- the complex solver: (A - p - q i) x = b in place
@@ -148,16 +143,14 @@ abbrev pub cplxRows : Format → ℕ → List Float → Float → Float → Floa
 cplxRows f ld a p q norm n rows x = blocksDown f ld a (cplxOne f ld a p q norm n) (cplxTwo f ld a p q norm n) rows x
 
 unfoldable pub solveCplx : Format → ℕ → List Float → Float → Float → Float → ℕ → List Float → List Float
-unfolding blocksDown cplxOne cplxTwo
 solveCplx f ld a p q norm n x = cplxRows f ld a p q norm n n x
 
 -- ---- the sum of magnitudes down to the subdiagonal, column after column
 
--- a plus the magnitudes of the k numbers from place p on
-unfoldable pub sumFrom : Format → List Float → ℕ → ℕ → Float → Float
-unfolding abs
-sumFrom f t zero p a = a
-sumFrom f t (suc k) p a = sumFrom f t k (p + 1) (add f a (abs1 (at t p)))
+-- a plus the magnitudes of k numbers from place p on, the i-th first
+unfoldable pub sumFrom : Format → List Float → ℕ → ℕ → ℕ → Float → Float
+sumFrom f t p zero i a = a
+sumFrom f t p (suc k) i a = sumFrom f t p k (i + 1) (add f a (abs1 (at t (p + i))))
 
 -- how many rows of column j are summed
 unfoldable pub rowsTo : ℕ → ℕ → ℕ
@@ -165,30 +158,27 @@ rowsTo n j = cond (ltb (j + 2) n) (j + 2) n
 
 -- the k columns from column j on
 unfoldable pub normColumns : Format → ℕ → ℕ → List Float → ℕ → ℕ → Float → Float
-unfolding sumFrom rowsTo
 normColumns f ld n t zero j a = a
-normColumns f ld n t (suc k) j a = normColumns f ld n t k (j + 1) (sumFrom f t (rowsTo n j) (ld * j) a)
+normColumns f ld n t (suc k) j a = normColumns f ld n t k (j + 1) (sumFrom f t (ld * j) (rowsTo n j) 0 a)
 
 unfoldable pub formNorm : Format → ℕ → ℕ → List Float → Float
-unfolding normColumns
 formNorm f ld n t = normColumns f ld n t n 0 (zeroOf f)
 
 -- ---- the columns of a block
 
 -- g done to the k numbers from place p on; the rest stays
-abbrev pub onPart : ℕ → ℕ → (List Float → List Float) → List Float → List Float
-onPart p k g v = take p v ++ g (take k (drop p v)) ++ drop (p + k) v
+unfoldable pub onPart : ℕ → ℕ → (List Float → List Float) → List Float → List Float
+onPart p k g v = take p v ++ (g (take k (drop p v)) ++ drop (p + k) v)
 
--- k numbers from place p on, those of the form negated
-unfoldable pub negatedRun : List Float → ℕ → ℕ → List Float → List Float
-negatedRun t zero p v = v
-negatedRun t (suc k) p v = negatedRun t k (p + 1) (set v p (neg (at t p)))
+-- k numbers from place p on, the i-th first: those of the form negated
+unfoldable pub negatedRun : List Float → ℕ → ℕ → ℕ → List Float → List Float
+negatedRun t p zero i v = v
+negatedRun t p (suc k) i v = negatedRun t p k (i + 1) (set v (p + i) (neg (at t (p + i))))
 
 -- a 1-block's column k: 1 in row k, and above it the solution
 unfoldable pub realColumn : Format → ℕ → List Float → Float → ℕ → List Float → List Float
-unfolding negatedRun solveReal
 realColumn f ld t norm k v =
-    onPart (ld * k) k (solveReal f ld t (entry ld t k k) norm k) (negatedRun t k (ld * k) (set v (place ld k k) (oneOf f)))
+    onPart (ld * k) k (solveReal f ld t (entry ld t k k) norm k) (negatedRun t (ld * k) k 0 (set v (place ld k k) (oneOf f)))
 
 -- the two diagonal numbers of a 2-block's columns
 pub record Start : Type 0 where
@@ -197,28 +187,28 @@ pub record Start : Type 0 where
 
 -- b above and c below the diagonal, and the imaginary size q
 unfoldable pub startOf : Format → Float → Float → Float → Start
-unfolding abs
 startOf f b c q = cond (le (abs c) (abs b)) (record { upper = oneOf f; lower = div f q b }) (record { upper = div f (neg q) c; lower = oneOf f })
 
 -- a 2-block's own four numbers
 unfoldable pub startBlock : Format → ℕ → ℕ → Start → List Float → List Float
 startBlock f ld j s v = set (set (set (set v (place ld j j) (s .upper)) (place ld (j + 1) (j + 1)) (s .lower)) (place ld j (j + 1)) (zeroOf f)) (place ld (j + 1) j) (zeroOf f)
 
--- k numbers from place p on, and as many from ld further on, those of the form times the negated diagonal numbers
-unfoldable pub scaledRuns : Format → ℕ → List Float → Start → ℕ → ℕ → List Float → List Float
-scaledRuns f ld t s zero p v = v
-scaledRuns f ld t s (suc k) p v =
-    scaledRuns f ld t s k (p + 1) (set (set v p (mul f (neg (s .upper)) (at t p))) (p + ld) (mul f (neg (s .lower)) (at t (p + ld))))
+-- k numbers from place p on, the i-th first, and as many ld further on: those of the form times the negated diagonal numbers
+unfoldable pub scaledRuns : Format → ℕ → List Float → Start → ℕ → ℕ → ℕ → List Float → List Float
+scaledRuns f ld t s p zero i v = v
+scaledRuns f ld t s p (suc k) i v =
+    scaledRuns f ld t s p k (i + 1) (set (set v (p + i) (mul f (neg (s .upper)) (at t (p + i)))) (p + i + ld) (mul f (neg (s .lower)) (at t (p + i + ld))))
+
+-- a 2-block's columns j and j + 1, before the rows above it are solved for
+unfoldable pub openColumns : Format → ℕ → List Float → ℕ → List Float → List Float
+openColumns f ld t j v =
+    let s = startOf f (entry ld t j (j + 1)) (entry ld t (j + 1) j) (sizeAt f ld t j) in
+    scaledRuns f ld t s (ld * j) j 0 (startBlock f ld j s v)
 
 -- a 2-block's columns j and j + 1: the real and the imaginary part
 unfoldable pub cplxColumns : Format → ℕ → List Float → Float → ℕ → List Float → List Float
-unfolding imagSize startOf startBlock scaledRuns solveCplx
 cplxColumns f ld t norm j v =
-    let b = entry ld t j (j + 1) in
-    let c = entry ld t (j + 1) j in
-    let q = imagSize f c b in
-    let s = startOf f b c q in
-    onPart (ld * j) (ld + j) (solveCplx f ld t (entry ld t (j + 1) (j + 1)) q norm j) (scaledRuns f ld t s j (ld * j) (startBlock f ld j s v))
+    onPart (ld * j) (ld + j) (solveCplx f ld t (entry ld t (j + 1) (j + 1)) (sizeAt f ld t j) norm j) (openColumns f ld t j v)
 
 -- ---- the calls
 
@@ -228,7 +218,6 @@ columnsOf f ld t norm rows v = blocksDown f ld t (realColumn f ld t norm) (cplxC
 
 -- all columns of an accepted form
 unfoldable pub vectorsOf : Format → ℕ → ℕ → List Float → List Float → List Float
-unfolding formNorm blocksDown realColumn cplxColumns
 vectorsOf f ld n t v = columnsOf f ld t (formNorm f ld n t) n v
 
 -- the answer, and what the vectors then hold
@@ -237,21 +226,17 @@ pub record Vectors : Type 0 where
   pub v : List Float
 
 unfoldable pub vectorsLine : Format → ℕ → ℕ → List Float → List Float → ℕ
-unfolding furtherLine
 vectorsLine f ld n t v = furtherLine f ld n t (not (eqb (length v) (ld * n)))
 
 -- turned away, it leaves the vectors
 unfoldable pub evdFromRealSchur : Format → ℕ → ℕ → List Float → List Float → Vectors
-unfolding vectorsLine vectorsOf
 evdFromRealSchur f ld n t v =
     cond (eqb (vectorsLine f ld n t v) 0) (record { answer = 0; v = vectorsOf f ld n t v }) (record { answer = vectorsLine f ld n t v; v = v })
 
 -- the first line that applies to a column of vectors, or 0
 unfoldable pub columnLine : ℕ → ℕ → List Float → ℕ → ℕ
-unfolding line2 line7
 columnLine ld n v col = cond (line2 n) 2 (cond (not (eqb (length v) (ld * n))) 4 (cond (line7 n col) 7 0))
 
 -- the part that is column `col`, or one of length 0
 unfoldable pub columnOf : ℕ → ℕ → List Float → ℕ → List Float
-unfolding columnLine
 columnOf ld n v col = cond (eqb (columnLine ld n v col) 0) (take n (drop (ld * col) v)) []
