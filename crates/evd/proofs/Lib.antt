@@ -4,3 +4,4 @@ pub mod Sums
 pub mod Blocks
 pub mod Lines
 pub mod Part
+pub mod Ups

@@ -35,7 +35,11 @@ further f ld n t wrong = among (line2 n) (line3 ld n t) wrong (line5 f ld n t) (
 
 -- ---- line 2 does not apply
 
-second : (a b : Bool) → (a || b) ≡ false → b ≡ false
+pub first : (a b : Bool) → (a || b) ≡ false → a ≡ false
+first true b e = absurd (true≢false e)
+first false b e = refl
+
+pub second : (a b : Bool) → (a || b) ≡ false → b ≡ false
 second true b e = absurd (true≢false e)
 second false b e = e
 
