@@ -2,3 +2,4 @@
 // numbers go to a lent buffer, whose wrong length is answered with 4.
 pub mod numbers;
 pub mod small;
+pub mod vectors;
