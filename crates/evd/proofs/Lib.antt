@@ -5,3 +5,4 @@ pub mod Blocks
 pub mod Lines
 pub mod Part
 pub mod Ups
+pub mod WorkedVectors
