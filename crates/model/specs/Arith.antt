@@ -14,6 +14,10 @@ abbrev pub oneOf : Format → Float
 oneOf binary32 = ofBits binary32 0x3f80_0000
 oneOf binary64 = ofBits binary64 0x3ff0_0000_0000_0000
 
+abbrev pub twoOf : Format → Float
+twoOf binary32 = ofBits binary32 0x4000_0000
+twoOf binary64 = ofBits binary64 0x4000_0000_0000_0000
+
 -- one half
 abbrev pub halfOf : Format → Float
 halfOf binary32 = ofBits binary32 0x3f00_0000

@@ -3,3 +3,4 @@
 pub mod blocks;
 pub mod numbers;
 pub mod small;
+pub mod vectors;

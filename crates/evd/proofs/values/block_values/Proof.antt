@@ -1,0 +1,52 @@
+-- `evd::values::block_values` meets its contract. Assumes nothing.
+use mathlib.Core.Path.{sym, _∙_}
+use mathlib.Core.Bool.{not}
+use native.Mathlib.Omega.{arith}
+use borrow.Author.Tests.{eq-eqb, ne-eqb, eqb-true, not-false}
+use lib.Dec.{eqb}
+use lib.ListN.{length}
+use lib.Ieee.{binary64}
+use Rattle.model.specs.Values.{valuesLine, blockValues}
+use Rattle.evd.proofs.Lines.{first, second, accepted}
+use borrow.Author.Needs.{needs}
+use Rattle.evd.proofs.values.block_values.Statement.{statement}
+use Rattle.evd.proofs.values.block_values.Tie as tie
+
+values-line-requires : tie.Need-values-line-requires
+values-line-requires c κs = search needs
+
+returns : tie.Need-returns
+unfolding blockValues valuesLine
+returns c = rw (← c .before .values-line .ensures, ne-eqb _ _ (c .if1 .taken))
+
+all-values-requires : tie.Need-all-values-requires
+all-values-requires c κs =
+    let i = c .before .before in
+    let l = i .before in
+    let s = l .before .before .before .before .args in
+    let r = eqb (length (s .re .now)) (s .n) in
+    let m = eqb (length (s .im .now)) (s .n) in
+    let a = accepted binary64 _ _ _ _ (sym (l .values-line .ensures) ∙ i .if1 .left) in (
+      (omega (arith, a .small), a .small, omega arith, a .whole),
+      eqb-true _ _ (not-false r (first (not r) (not m) (a .fits))),
+      eqb-true _ _ (not-false m (second (not r) (not m) (a .fits))),
+    )
+
+same-length : tie.Need-same-length
+same-length c = search needs
+
+same-length-2 : tie.Need-same-length-2
+same-length-2 c = search needs
+
+returns-2 : tie.Need-returns-2
+unfolding blockValues valuesLine
+returns-2 c =
+    let w = c .before .before .before .before in
+    let i = w .before .before .before in
+    let l = i .before in
+    rw (← l .values-line .ensures, eq-eqb _ _ (i .if1 .left), w .all-values .ensures)
+
+pub block-values-spec : {M : Type 1} → statement M
+block-values-spec =
+    tie.close
+    (tie.spec values-line-requires returns all-values-requires same-length same-length-2 returns-2)

@@ -1,0 +1,39 @@
+-- `evd::vectors::evd_from_real_schur` meets its contract. Assumes nothing.
+use mathlib.Core.Path.{sym, _∙_}
+use native.Mathlib.Omega.{arith}
+use borrow.Author.Tests.{eq-eqb, ne-eqb, eqb-true, not-false}
+use lib.Ieee.{binary64}
+use Rattle.model.specs.Vectors.{vectorsLine, evdFromRealSchur}
+use Rattle.evd.proofs.Lines.{accepted}
+use borrow.Author.Needs.{needs}
+use Rattle.evd.proofs.vectors.evd_from_real_schur.Statement.{statement}
+use Rattle.evd.proofs.vectors.evd_from_real_schur.Tie as tie
+
+vectors-line-requires : tie.Need-vectors-line-requires
+vectors-line-requires c κs = search needs
+
+returns : tie.Need-returns
+unfolding evdFromRealSchur vectorsLine
+returns c = rw (← c .before .vectors-line .ensures, ne-eqb _ _ (c .if1 .taken))
+
+all-columns-requires : tie.Need-all-columns-requires
+all-columns-requires c κs =
+    let i = c .before in
+    let l = i .before in
+    let a = accepted binary64 _ _ _ _ (sym (l .vectors-line .ensures) ∙ i .if1 .left) in
+    ((omega (arith, a .small), a .small, omega arith, a .whole), eqb-true _ _ (not-false _ (a .fits)))
+
+same-length : tie.Need-same-length
+same-length c = search needs
+
+returns-2 : tie.Need-returns-2
+unfolding evdFromRealSchur vectorsLine
+returns-2 c =
+    let w = c .before .before in
+    let i = w .before .before in
+    let l = i .before in
+    rw (← l .vectors-line .ensures, eq-eqb _ _ (i .if1 .left), w .all-columns .ensures)
+
+pub evd-from-real-schur-spec : {M : Type 1} → statement M
+evd-from-real-schur-spec =
+    tie.close (tie.spec vectors-line-requires returns all-columns-requires same-length returns-2)

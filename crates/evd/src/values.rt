@@ -1,0 +1,83 @@
+// Block values, as partial_schur_real_imp reads them.
+ghost use mathlib.Core.Path.{_≡_};
+ghost use mathlib.Core.Bool.{not, _||_};
+ghost use Prim.Native.Nat.{_+_, _-_, _*_, _<_, _≤_};
+ghost use lib.Dec.{eqb};
+ghost use lib.ListN.{length};
+ghost use lib.Ieee.{binary64};
+ghost use Rattle.model.specs.Values as Values;
+ghost use Rattle.evd.specs.Sizes.{Whole};
+use crate::block::imag_size;
+use crate::block::with_further;
+use form::form_line;
+use form::place;
+
+// A 1-block in row j: its diagonal number and +0.
+fn one_value(ld: usize, n: usize, t: &[f64], j: usize, re: &mut [f64], im: &mut [f64])
+    requires { ⌜ Whole (now t) ld n × (length (now re) ≡ n) × (length (now im) ≡ n) × (j < n) ⌝ }
+    ensures { λ _. ⌜ (record { re = now (re .exit); im = now (im .exit) }) ≡ Values.oneValue binary64 ld (now (t .entry)) j (record { re = now (re .entry); im = now (im .entry) }) ⌝ }
+{
+    re[j] = t[place(ld, n, j, j)];
+    im[j] = 0.0;
+}
+
+// A 2-block in rows j and j + 1: the first diagonal number twice, with m and then -m.
+fn two_values(ld: usize, n: usize, t: &[f64], j: usize, re: &mut [f64], im: &mut [f64])
+    requires { ⌜ Whole (now t) ld n × (length (now re) ≡ n) × (length (now im) ≡ n) × (j + 1 < n) ⌝ }
+    ensures { λ _. ⌜ (record { re = now (re .exit); im = now (im .exit) }) ≡ Values.twoValues binary64 ld (now (t .entry)) j (record { re = now (re .entry); im = now (im .entry) }) ⌝ }
+{
+    let x = t[place(ld, n, j, j)];
+    let m = imag_size(t[place(ld, n, j + 1, j)], t[place(ld, n, j, j + 1)]);
+    re[j + 1] = x;
+    im[j + 1] = -m;
+    re[j] = x;
+    im[j] = m;
+}
+
+// The block that starts in row j, and the row after it.
+fn next_block(ld: usize, n: usize, t: &[f64], j: usize, re: &mut [f64], im: &mut [f64]) -> usize
+    requires { ⌜ Whole (now t) ld n × (length (now re) ≡ n) × (length (now im) ≡ n) × (j < n) ⌝ }
+    ensures { λ r. ⌜ (j < r) × (r ≤ n) × (Values.valuesFrom binary64 ld (now (t .entry)) (n - r) r (record { re = now (re .exit); im = now (im .exit) }) ≡ Values.valuesFrom binary64 ld (now (t .entry)) (n - j) j (record { re = now (re .entry); im = now (im .entry) })) ⌝ }
+{
+    if j + 1 == n {
+        one_value(ld, n, t, j, re, im);
+        return j + 1;
+    }
+    if t[place(ld, n, j + 1, j)] != 0.0 {
+        two_values(ld, n, t, j, re, im);
+        return j + 2;
+    }
+    one_value(ld, n, t, j, re, im);
+    j + 1
+}
+
+// The values of an accepted form.
+fn all_values(ld: usize, n: usize, t: &[f64], re: &mut [f64], im: &mut [f64])
+    requires { ⌜ Whole (now t) ld n × (length (now re) ≡ n) × (length (now im) ≡ n) ⌝ }
+    ensures { λ _. ⌜ (record { re = now (re .exit); im = now (im .exit) }) ≡ Values.valuesFrom binary64 ld (now (t .entry)) n 0 (record { re = now (re .entry); im = now (im .entry) }) ⌝ }
+{
+    let mut j = 0;
+    while j < n {
+        j = next_block(ld, n, t, j, &mut *re, &mut *im);
+    }
+}
+
+// The first line that applies to a form and buffers of so many numbers, or 0.
+fn values_line(n: usize, t: &[f64], re_len: usize, im_len: usize) -> usize
+    ensures { λ r. ⌜ r ≡ Values.furtherLine binary64 n n (now (t .entry)) (not (eqb «re_len» n) || not (eqb «im_len» n)) ⌝ }
+{
+    with_further(form_line(n, t), (re_len != n) | (im_len != n))
+}
+
+// The real and the imaginary parts of the form's values, or the number of the first line that
+// applies.
+pub fn block_values(n: usize, t: &[f64], re: &mut [f64], im: &mut [f64]) -> usize
+    ensures { λ r. ⌜ (record { answer = r; parts = record { re = now (re .exit); im = now (im .exit) } }) ≡ Values.blockValues binary64 n n (now (t .entry)) (record { re = now (re .entry); im = now (im .entry) }) ⌝ }
+{
+    let line = values_line(n, t, re.len(), im.len());
+    if line != 0 {
+        return line;
+    }
+    all_values(n, n, t, re, im);
+    0
+}
