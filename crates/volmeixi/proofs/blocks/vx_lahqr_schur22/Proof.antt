@@ -2,14 +2,15 @@
 use borrow.Author.Needs.{needs}
 use native.Mathlib.Omega.{arith}
 use lib.ListN.{length-set}
-use Rattle.volmeixi.proofs.Deliver.{eqb-yes, eqb-no, held}
+use Rattle.volmeixi.proofs.Deliver.{held}
+use borrow.Author.Tests.{eq-eqb, ne-eqb}
 use Rattle.volmeixi.specs.Blocks.{ofStandardised, standardised}
 use Rattle.volmeixi.proofs.blocks.vx_lahqr_schur22.Statement.{statement}
 use Rattle.volmeixi.proofs.blocks.vx_lahqr_schur22.Tie as tie
 
 returns : tie.Need-returns
 unfolding standardised
-returns c = rw (eqb-no _ _ (c .if1 .taken))
+returns c = rw (ne-eqb _ _ (c .if1 .taken))
 
 lahqr-schur22-requires : tie.Need-lahqr-schur22-requires
 lahqr-schur22-requires c κs = search needs
@@ -56,7 +57,7 @@ returns-2 c =
     let a = c .before .before in
     let b = a .before in
     let d = b .before .before in
-    rw (eqb-yes (b .if1 .left), ← a .lahqr-schur22 .ensures, ← c .values-of .ensures) (held _ _ (d .args .out .now) (b .if1 .left))
+    rw (eq-eqb _ _ (b .if1 .left), ← a .lahqr-schur22 .ensures, ← c .values-of .ensures) (held _ _ (d .args .out .now) (b .if1 .left))
 
 pub vx-lahqr-schur22-spec : {M : Type 1} → statement M
 vx-lahqr-schur22-spec =

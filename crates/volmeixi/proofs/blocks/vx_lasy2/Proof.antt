@@ -2,25 +2,26 @@
 use borrow.Author.Needs.{needs}
 use native.Mathlib.Omega.{arith}
 use lib.ListN.{length-set}
-use Rattle.volmeixi.proofs.Deliver.{eqb-yes, eqb-no, held}
+use Rattle.volmeixi.proofs.Deliver.{held}
+use borrow.Author.Tests.{eq-eqb, ne-eqb}
 use Rattle.volmeixi.specs.Blocks.{lentLasy2}
 use Rattle.volmeixi.proofs.blocks.vx_lasy2.Statement.{statement}
 use Rattle.volmeixi.proofs.blocks.vx_lasy2.Tie as tie
 
 returns : tie.Need-returns
 unfolding lentLasy2
-returns c = rw (eqb-no _ _ (c .if1 .taken))
+returns c = rw (ne-eqb _ _ (c .if1 .taken))
 
 returns-2 : tie.Need-returns-2
 unfolding lentLasy2
-returns-2 c = let a = c .before in rw (eqb-yes (a .if1 .left), eqb-no _ _ (c .if2 .taken))
+returns-2 c = let a = c .before in rw (eq-eqb _ _ (a .if1 .left), ne-eqb _ _ (c .if2 .taken))
 
 returns-3 : tie.Need-returns-3
 unfolding lentLasy2
 returns-3 c =
     let a = c .before in
     let b = a .before in
-    rw (eqb-yes (b .if1 .left), eqb-yes (a .if2 .left), eqb-no _ _ (c .if3 .taken))
+    rw (eq-eqb _ _ (b .if1 .left), eq-eqb _ _ (a .if2 .left), ne-eqb _ _ (c .if3 .taken))
 
 returns-4 : tie.Need-returns-4
 unfolding lentLasy2
@@ -28,7 +29,7 @@ returns-4 c =
     let a = c .before in
     let b = a .before in
     let d = b .before in
-    rw (eqb-yes (d .if1 .left), eqb-yes (b .if2 .left), eqb-yes (a .if3 .left), eqb-no _ _ (c .if4 .taken))
+    rw (eq-eqb _ _ (d .if1 .left), eq-eqb _ _ (b .if2 .left), eq-eqb _ _ (a .if3 .left), ne-eqb _ _ (c .if4 .taken))
 
 two-by-two-requires : tie.Need-two-by-two-requires
 two-by-two-requires c κs = search needs
@@ -71,7 +72,7 @@ returns-5 c =
     let g = f .before in
     let h = g .before in
     let i = h .before .before .before .before .before in
-    rw (eqb-yes (h .if1 .left), eqb-yes (g .if2 .left), eqb-yes (f .if3 .left), eqb-yes (e .if4 .left), ← d .two-by-two .ensures, ← b .two-by-two2 .ensures, ← a .two-by-two3 .ensures, ← c .lasy2 .ensures) (held _ _ (i .args .out .now) (e .if4 .left))
+    rw (eq-eqb _ _ (h .if1 .left), eq-eqb _ _ (g .if2 .left), eq-eqb _ _ (f .if3 .left), eq-eqb _ _ (e .if4 .left), ← d .two-by-two .ensures, ← b .two-by-two2 .ensures, ← a .two-by-two3 .ensures, ← c .lasy2 .ensures) (held _ _ (i .args .out .now) (e .if4 .left))
 
 pub vx-lasy2-spec : {M : Type 1} → statement M
 vx-lasy2-spec =
