@@ -1,18 +1,12 @@
--- A NaN's pattern by the test that the code makes, and what `isWord` says. Assumes nothing.
+-- NaNs and their patterns, and what `isWord` says. Assumes nothing.
 use mathlib.Core.Path.{_≡_, refl, sym, ap, _∙_}
-use Prim.Native.Nat.{ℕ, _*_, _%_, _<_, _≤_, _^_}
+use Prim.Native.Nat.{ℕ, _*_, _<_, _^_}
 use mathlib.Core.Bool.{Bool, true, false, not, _&&_, true≢false}
 use lib.Dec.{T, eqb, eqb-refl}
 use lib.Ieee.{Float, nan, inf, fin, binary64, up, down, fits, ne, isNan, ofBits, toBits, nanBits}
-use lib.Ieee.Bits.{is-true, nanBits-above, nanBits-is, ofBits-toBits, toBits-ofBits}
-use borrow.Author.Tests.{lt-ltb, le-ltb, eqb-true, eq-eqb}
+use lib.Ieee.Bits.{is-true, nanBits-is, ofBits-toBits, toBits-ofBits}
+use borrow.Author.Tests.{eqb-true, eq-eqb}
 use Rattle.replay_text.specs.Float.{isWord}
-
-pub nan-word : (w : ℕ) → 0x7ff0_0000_0000_0000 < w % 0x8000_0000_0000_0000 → nanBits binary64 w ≡ true
-nan-word w h = nanBits-above binary64 w ∙ lt-ltb _ _ h
-
-pub no-nan-word : (w : ℕ) → w % 0x8000_0000_0000_0000 ≤ 0x7ff0_0000_0000_0000 → nanBits binary64 w ≡ false
-no-nan-word w h = nanBits-above binary64 w ∙ le-ltb _ _ h
 
 nan-is : (x : Float) → isNan x ≡ true → x ≡ nan
 unfolding isNan

@@ -2,14 +2,21 @@
 ghost use mathlib.Core.Path.{_≡_};
 ghost use mathlib.Core.List.{map};
 ghost use lib.ListN.{length};
-ghost use lib.Ieee.{binary64, ofBits};
+ghost use lib.Ieee.{binary64, ofBits, nanBits};
 ghost use Rattle.replay_text.specs.Float.{isWord, areWords};
+
+// Whether w is a NaN's pattern.
+fn is_nan(w: u64) -> bool
+    ensures { λ r. ⌜ r ≡ nanBits binary64 w ⌝ }
+{
+    w % 0x8000_0000_0000_0000 > 0x7ff0_0000_0000_0000
+}
 
 // The number of the bits w. A NaN's pattern of any payload is the one NaN.
 pub fn float_of(w: u64) -> f64
     ensures { λ r. ⌜ r ≡ ofBits binary64 w ⌝ }
 {
-    if w % 0x8000_0000_0000_0000 > 0x7ff0_0000_0000_0000 {
+    if is_nan(w) {
         return 0.0 / 0.0;
     }
     f64::from_bits(w)
@@ -19,7 +26,7 @@ pub fn float_of(w: u64) -> f64
 pub fn is_word(x: f64, w: u64) -> bool
     ensures { λ r. ⌜ r ≡ isWord x w ⌝ }
 {
-    if w % 0x8000_0000_0000_0000 > 0x7ff0_0000_0000_0000 {
+    if is_nan(w) {
         return x != x;
     }
     if x != x {
