@@ -10,7 +10,7 @@ pub const CALLS: usize = 14;
 // The rows of the counts: one of each call, and one of what is no call.
 pub const ROWS: usize = 15;
 
-// The name of a call, with spaces after it.
+// The name of a call, with spaces after it; what is no call has none.
 pub fn name_of(call: usize) -> [u8; 28] {
     match call {
         0 => *b"abs                         ",
@@ -27,7 +27,7 @@ pub fn name_of(call: usize) -> [u8; 28] {
         11 => *b"adjoint                     ",
         12 => *b"apply                       ",
         13 => *b"make_householder_in_place   ",
-        _ => *b"no line of a call           ",
+        _ => [b' '; 28],
     }
 }
 
