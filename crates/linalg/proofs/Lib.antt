@@ -1,4 +1,3 @@
 pub mod Left
 pub mod Safe
 pub mod Within
-pub mod WorkedSchur22
