@@ -31,7 +31,7 @@ oracle sheet < text
 oracle generate CALL|all COUNT SEED [--n-min N] [--n-max N]
 oracle compare CALL|all COUNT SEED [--n-min N] [--n-max N] [--sheet PROGRAM]
 oracle replay < cases
-oracle vectors CALL...|all";
+oracle vectors CALL...|all [--classes] [--random N]";
 
 fn main() -> ExitCode {
     let args: Vec<String> = std::env::args().skip(1).collect();
@@ -46,9 +46,7 @@ fn main() -> ExitCode {
         ["compare", call, count, seed, ref options @ ..] => {
             plan(call, count, seed, options).and_then(|p| compare::run(&p))
         }
-        ["vectors", ref calls @ ..] if !calls.is_empty() => {
-            vectors::write(calls, &mut BufWriter::new(io::stdout().lock())).map(|()| true)
-        }
+        ["vectors", ref words @ ..] => write_vectors(words).map(|()| true),
         _ => Err(io::Error::other(USAGE)),
     };
     match done {
@@ -112,6 +110,24 @@ fn plan(call: &str, count: &str, seed: &str, options: &[&str]) -> io::Result<Pla
         return Err(io::Error::other("rows are 1 to 64, --n-min at most --n-max"));
     }
     Ok(plan)
+}
+
+/// Stored vectors of the calls named before the options.
+fn write_vectors(words: &[&str]) -> io::Result<()> {
+    let (calls, mut options) = words.split_at(words.iter().take_while(|word| !word.starts_with("--")).count());
+    if calls.is_empty() {
+        return Err(io::Error::other(USAGE));
+    }
+    let mut extent = vectors::WHOLE;
+    loop {
+        (extent, options) = match *options {
+            [] => break,
+            ["--classes", ref rest @ ..] => (extent.of_classes(), rest),
+            ["--random", n, ref rest @ ..] => (extent.of_random(number(n)?), rest),
+            _ => return Err(io::Error::other(USAGE)),
+        };
+    }
+    vectors::write(calls, &extent, &mut BufWriter::new(io::stdout().lock()))
 }
 
 /// Cases on standard output, and what the Rust makes of them on standard error.

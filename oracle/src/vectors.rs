@@ -3,7 +3,7 @@
 //! expected ones after them, always the same count for a call. README.md lists the words.
 
 use crate::calls;
-use crate::generate::floats::PATTERNS;
+use crate::generate::floats::{EDGES, PATTERNS};
 use crate::generate::{self, USUAL};
 use crate::record::{Kind, Record, Value, find};
 use std::io::{self, Write};
@@ -30,14 +30,35 @@ const SEED: u64 = 1;
 const NORM_PLACES: usize = 6;
 const TAIL_PLACES: usize = 5;
 
+/// How many vectors to write.
+pub struct Extent {
+    /// The patterns that stand against each other in calls of two numbers.
+    pairs: &'static [u64],
+    /// The most random cases of a call.
+    random: u64,
+}
+
+pub const WHOLE: Extent = Extent { pairs: PATTERNS, random: u64::MAX };
+
+impl Extent {
+    /// One pattern of each class and sign against each other.
+    pub fn of_classes(self) -> Extent {
+        Extent { pairs: EDGES, ..self }
+    }
+
+    pub fn of_random(self, random: u64) -> Extent {
+        Extent { random, ..self }
+    }
+}
+
 /// Writes the vectors of the named calls, or of all that have them.
-pub fn write(names: &[&str], out: &mut impl Write) -> io::Result<()> {
+pub fn write(names: &[&str], extent: &Extent, out: &mut impl Write) -> io::Result<()> {
     let unknown = names.iter().find(|name| **name != "all" && !STORED.iter().any(|s| s.0 == **name));
     if let Some(name) = unknown {
         return Err(io::Error::other(format!("`{name}` has no stored vectors")));
     }
     for (name, random) in STORED.iter().filter(|s| names.contains(&s.0) || names.contains(&"all")) {
-        for (index, case) in cases(name, *random).iter().enumerate() {
+        for (index, case) in cases(name, *random, extent).iter().enumerate() {
             let words: Vec<String> = words(case).iter().map(|w| format!("{w:016x}")).collect();
             writeln!(out, "{name} {index:016x} {}", words.join(" "))?;
         }
@@ -45,29 +66,37 @@ pub fn write(names: &[&str], out: &mut impl Write) -> io::Result<()> {
     Ok(())
 }
 
-/// Every pattern, or every pattern against every pattern; then random cases.
-fn cases(name: &str, random: u64) -> Vec<Record> {
+/// Every pattern, or every pattern against every pattern, lists of every length; then random cases.
+fn cases(name: &str, random: u64, extent: &Extent) -> Vec<Record> {
     let call = find(name).expect("a stored call");
     let mut cases = match call.given {
         [(x, Kind::Float)] => PATTERNS.iter().map(|p| Record::new(call.name).float(x, f64::from_bits(*p))).collect(),
-        [(p, Kind::Float), (q, Kind::Float)] => pairs(call.name, |case, x, y| case.float(p, x).float(q, y)),
+        [(p, Kind::Float), (q, Kind::Float)] => pairs(call.name, extent, |case, x, y| case.float(p, x).float(q, y)),
         [(head, Kind::Float), (tail, Kind::List)] => {
-            let mut cases = pairs(call.name, |case, x, y| case.float(head, x).list(tail, vec![y]));
+            let mut cases = pairs(call.name, extent, |case, x, y| case.float(head, x).list(tail, vec![y]));
             cases.extend(
                 (0..=TAIL_PLACES).map(|len| Record::new(call.name).float(head, 49.0).list(tail, vec![3.0; len])),
             );
             cases
         }
+        [(x, Kind::List)] => {
+            let single = PATTERNS.iter().map(|p| vec![f64::from_bits(*p)]);
+            let lists = single.chain((0..=NORM_PLACES).map(|len| vec![3.0; len]));
+            lists.map(|list| Record::new(call.name).list(x, list)).collect()
+        }
+        [(c, Kind::Float), (s, Kind::Float), (x, Kind::Float), (y, Kind::Float)] => {
+            pairs(call.name, extent, |case, p, q| case.float(c, p).float(s, q).float(x, q).float(y, p))
+        }
         _ => Vec::new(),
     };
     let drawn = (0..).map(|index| generate::case(call.name, SEED, index, USUAL));
-    cases.extend(drawn.filter(|case| case.find("out").is_none()).take(random as usize));
+    cases.extend(drawn.filter(|case| case.find("out").is_none()).take(random.min(extent.random) as usize));
     cases
 }
 
-fn pairs(name: &'static str, case: impl Fn(Record, f64, f64) -> Record) -> Vec<Record> {
-    let each = |x: u64| PATTERNS.iter().map(move |y| (f64::from_bits(x), f64::from_bits(*y)));
-    PATTERNS.iter().flat_map(|x| each(*x)).map(|(x, y)| case(Record::new(name), x, y)).collect()
+fn pairs(name: &'static str, extent: &Extent, case: impl Fn(Record, f64, f64) -> Record) -> Vec<Record> {
+    let each = |x: u64| extent.pairs.iter().map(move |y| (f64::from_bits(x), f64::from_bits(*y)));
+    extent.pairs.iter().flat_map(|x| each(*x)).map(|(x, y)| case(Record::new(name), x, y)).collect()
 }
 
 /// The words of a case and of its answer.

@@ -1,15 +1,15 @@
 -- What the comparisons that the code makes say of a float, over the format. Assumes nothing.
-use mathlib.Core.Path.{_≡_, refl, sym, ap, subst}
-use Prim.Native.Nat.{ℕ, zero, suc, _+_, _*_, _^_, _≤_, _<_}
+use mathlib.Core.Path.{_≡_, refl, sym, ap, _∙_, subst}
+use Prim.Native.Nat.{ℕ, zero, suc, _+_, _*_, _^_, _<_}
 use native.Mathlib.Nat.{zero-lt-suc, mul-pos}
 use native.Mathlib.Omega.{arith}
 use mathlib.Core.Bool.{Bool, true, false, true≢false}
-use lib.Dec.{T, eqb, ltb, ltb→lt, lt→ltb, eqb→eq}
+use lib.Dec.{T, eqb, ltb, ltb→lt, lt→ltb, eqb→eq, eqb-refl}
 use lib.IntN.{ℤ, pos, negsuc}
 use lib.Pow.{pow-pos}
-use lib.Ieee.{Float, nan, inf, fin, Format, up, down, fits, lt, eq, ne, neg, isNan, ofBits}
+use lib.Ieee.{Float, nan, inf, fin, Format, up, down, fits, lt, eq, ne, neg, isNan}
 use lib.Ieee.Fits.{up-pos, and-i, and-l, eq→eqb}
-use lib.Ieee.Compare.{differs-from-itself}
+use lib.Ieee.Bits.{is-true}
 use Rattle.model.specs.Arith.{abs}
 
 pub passed : {b : Bool} → b ≡ true → T b
@@ -19,15 +19,19 @@ pub failed : {b : Bool} → b ≡ false → T b → ⊥
 failed e t = subst T e t
 
 -- ---- x != x
+pub differs-nan : (x : Float) → ne x x ≡ isNan x
+unfolding ne isNan
+differs-nan nan = refl
+differs-nan (inf true) = refl
+differs-nan (inf false) = refl
+differs-nan (fin true m e) = rw (is-true (eqb (m * up e * down e) (m * up e * down e)) (eqb-refl (m * up e * down e)))
+differs-nan (fin false m e) = rw (is-true (eqb (m * up e * down e) (m * up e * down e)) (eqb-refl (m * up e * down e)))
+
 pub is-nan : (x : Float) → ne x x ≡ true → isNan x ≡ true
-unfolding isNan
-is-nan x e = subst (λ (z : Float). isNan z ≡ true) (sym (differs-from-itself x (passed e))) refl
+is-nan x e = sym (differs-nan x) ∙ e
 
 pub is-number : (x : Float) → ne x x ≡ false → isNan x ≡ false
-unfolding isNan ne
-is-number nan e = e
-is-number (inf s) e = refl
-is-number (fin s m e) h = refl
+is-number x e = sym (differs-nan x) ∙ e
 
 -- ---- the magnitude, by the tests x < 0 and x == 0
 abbrev z : Float

@@ -51,18 +51,12 @@ pub fn mul_pow2(x: f64, p: f64) -> f64
 pub fn fmax(p: f64, q: f64) -> f64
     ensures { λ r. ⌜ r ≡ Arith.fmax p q ⌝ }
 {
-    if p > q {
-        return p;
-    }
-    if q != q { p } else { q }
+    if p > q || q != q { p } else { q }
 }
 
 // p where p < q or q is a NaN, else q.
 pub fn fmin(p: f64, q: f64) -> f64
     ensures { λ r. ⌜ r ≡ Arith.fmin p q ⌝ }
 {
-    if p < q {
-        return p;
-    }
-    if q != q { p } else { q }
+    if p < q || q != q { p } else { q }
 }

@@ -6,5 +6,5 @@ use native.Mathlib.Omega.{arith}
 pub inside : (ld n i j : ℕ) → i < ld → j < n → i + ld * j < ld * n
 inside ld n i j h k = let m : ld * suc j ≤ ld * n = mul-le-mul-left ld k in omega arith
 
-pub small : (ld n : ℕ) → ld ≤ 128 → n ≤ 64 → ld * n ≤ 8192
+pub small : (ld n : ℕ) → ld ≤ 128 → n ≤ 65 → ld * n ≤ 8320
 small ld n h k = mul-le-mul h k

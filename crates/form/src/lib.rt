@@ -9,7 +9,7 @@ ghost use Rattle.model.specs.Form.{at, some};
 
 // Where row i, column j stands in a form of n columns, ld places apart.
 pub fn place(ld: usize, n: usize, i: usize, j: usize) -> usize
-    requires { ⌜ (ld ≤ 128) × (n ≤ 64) × (i < ld) × (j < n) ⌝ }
+    requires { ⌜ (ld ≤ 128) × (n ≤ 65) × (i < ld) × (j < n) ⌝ }
     ensures { λ r. ⌜ (r ≡ i + ld * j) × (r < ld * n) ⌝ }
 {
     i + ld * j

@@ -1,0 +1,3 @@
+pub mod Left
+pub mod Safe
+pub mod Within

@@ -23,6 +23,23 @@ abbrev pub halfOf : Format → Float
 halfOf binary32 = ofBits binary32 0x3f00_0000
 halfOf binary64 = ofBits binary64 0x3fe0_0000_0000_0000
 
+abbrev pub fourOf : Format → Float
+fourOf binary32 = ofBits binary32 0x4080_0000
+fourOf binary64 = ofBits binary64 0x4010_0000_0000_0000
+
+abbrev pub eightOf : Format → Float
+eightOf binary32 = ofBits binary32 0x4100_0000
+eightOf binary64 = ofBits binary64 0x4020_0000_0000_0000
+
+-- one eighth
+abbrev pub eighthOf : Format → Float
+eighthOf binary32 = ofBits binary32 0x3e00_0000
+eighthOf binary64 = ofBits binary64 0x3fc0_0000_0000_0000
+
+abbrev pub tenOf : Format → Float
+tenOf binary32 = ofBits binary32 0x4120_0000
+tenOf binary64 = ofBits binary64 0x4024_0000_0000_0000
+
 abbrev pub infinityOf : Format → Float
 infinityOf binary32 = ofBits binary32 0x7f80_0000
 infinityOf binary64 = ofBits binary64 0x7ff0_0000_0000_0000

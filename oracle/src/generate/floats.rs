@@ -31,6 +31,27 @@ pub const PATTERNS: &[u64] = &[
     0x7ff8_0000_0000_0000, // NaN
 ];
 
+/// One pattern of each class and sign: of those above, without near repeats.
+pub const EDGES: &[u64] = &[
+    0x0000_0000_0000_0000, // zeros
+    0x8000_0000_0000_0000,
+    0x0000_0000_0000_0001, // least subnormals
+    0x8000_0000_0000_0001,
+    0x000f_ffff_ffff_ffff, // greatest subnormal
+    0x0010_0000_0000_0000, // 2^-1022
+    0x8010_0000_0000_0000,
+    0x3ff0_0000_0000_0000, // 1
+    0xbff0_0000_0000_0000,
+    0x4008_0000_0000_0000, // 3
+    0xc008_0000_0000_0000,
+    0x4048_8000_0000_0000, // 49
+    0x7fef_ffff_ffff_ffff, // greatest finite
+    0xffef_ffff_ffff_ffff,
+    0x7ff0_0000_0000_0000, // infinities
+    0xfff0_0000_0000_0000,
+    0x7ff8_0000_0000_0000, // NaN
+];
+
 /// How many classes `class` knows.
 pub const CLASSES: usize = 14;
 

@@ -3,13 +3,14 @@ use borrow.Author.Needs.{needs}
 use native.Mathlib.Omega.{arith}
 use lib.ListN.{length-set}
 use Rattle.volmeixi.specs.Lent.{lentReflection, deliverReflection}
-use Rattle.volmeixi.proofs.Deliver.{eqb-yes, eqb-no, reflected}
+use Rattle.volmeixi.proofs.Deliver.{reflected}
+use borrow.Author.Tests.{eq-eqb, ne-eqb}
 use Rattle.volmeixi.proofs.small.vx_make_householder_in_place.Statement.{statement}
 use Rattle.volmeixi.proofs.small.vx_make_householder_in_place.Tie as tie
 
 returns : tie.Need-returns
 unfolding lentReflection
-returns c = rw (eqb-no _ _ (c .if1 .taken))
+returns c = rw (ne-eqb _ _ (c .if1 .taken))
 
 make-householder-in-place-requires : tie.Need-make-householder-in-place-requires
 make-householder-in-place-requires c κs = search needs
@@ -21,7 +22,7 @@ returns-2 : tie.Need-returns-2
 unfolding lentReflection deliverReflection
 returns-2 c =
     let m = c .before .before .before .before in
-    rw (eqb-yes (m .before .before .if1 .left), ← m .make-householder-in-place .ensures, eqb-no _ _ (c .if2 .taken))
+    rw (eq-eqb _ _ (m .before .before .if1 .left), ← m .make-householder-in-place .ensures, ne-eqb _ _ (c .if2 .taken))
 
 slice-write-out : tie.Need-slice-write-out
 slice-write-out c = search needs
@@ -47,7 +48,7 @@ returns-3 c =
     let m = c .before .before .before .before in
     let s = m .before .before in
     let e = s .if1 .left in
-    rw (eqb-yes e, ← m .make-householder-in-place .ensures, c .if2 .left) (reflected _ _ (s .before .before .before .args .out .now) e)
+    rw (eq-eqb _ _ e, ← m .make-householder-in-place .ensures, c .if2 .left) (reflected _ _ (s .before .before .before .args .out .now) e)
 
 pub vx-make-householder-in-place-spec : {M : Type 1} → statement M
 vx-make-householder-in-place-spec =

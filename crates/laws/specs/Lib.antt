@@ -1,0 +1,2 @@
+pub mod RootNearest
+pub mod Worked

@@ -1,0 +1,7 @@
+pub mod Places
+pub mod Swap
+pub mod Upper
+pub mod Rows
+pub mod Move
+pub mod Lists
+pub mod Worked

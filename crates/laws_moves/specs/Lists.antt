@@ -1,0 +1,105 @@
+-- The rule on lists of moves (demand 3): what a list of moves does to a form, the row list that is worked beside it, and the claim about two lists. Definitions and the statement only: it is proved in proofs/Lists.antt. Assumes nothing.
+-- All over the format: both widths are one statement.
+use mathlib.Core.Path.{_≡_}
+use Prim.Native.Nat.{ℕ, zero, suc, _+_, _*_, _<_}
+use mathlib.Core.Bool.{Bool, true, false, not, _||_, cond}
+use mathlib.Core.List.{List, [], _∷_}
+use lib.Dec.{eqb, ltb}
+use lib.ListN.{length, getD}
+use lib.Ieee.{Float, Format, isNan, toBits}
+use Rattle.model.specs.Form.{entry, zeroBelow, formLine}
+use Rattle.model.specs.Move.{moveCall}
+
+-- ---- a list of moves on a form
+
+-- a move's two positions, and the factor that it brings, of any length and content
+pub record Move : Type 0 where
+  pub from : ℕ
+  pub to : ℕ
+  pub factor : List Float
+
+-- each move by the call's own definition, the one that the contract of reorder_schur cites, on the form as the move before left it
+unfoldable pub formAfter : Format → ℕ → List Move → List Float → List Float
+formAfter f n [] t = t
+formAfter f n (m ∷ ms) t = formAfter f n ms (moveCall f n n t (m .factor) (m .from) (m .to) .form)
+
+-- ---- the row list, by itself: it reads no number of a form or a factor, and no answer
+
+-- what it is fed of a move: the two positions, and the factor's length
+pub record Fed : Type 0 where
+  pub from : ℕ
+  pub to : ℕ
+  pub length : ℕ
+
+abbrev pub fedOf : Move → Fed
+fedOf m = record { from = m .from; to = m .to; length = length (m .factor) }
+
+unfoldable pub fed : List Move → List Fed
+fed [] = []
+fed (m ∷ ms) = fedOf m ∷ fed ms
+
+-- k numbers from i on: i, i + 1, ..
+unfoldable pub countFrom : ℕ → ℕ → List ℕ
+countFrom zero i = []
+countFrom (suc k) i = i ∷ countFrom k (i + 1)
+
+-- the number at a place taken out: the rest close up
+unfoldable pub takeOut : ℕ → List ℕ → List ℕ
+takeOut k [] = []
+takeOut zero (r ∷ rs) = rs
+takeOut (suc k) (r ∷ rs) = r ∷ takeOut k rs
+
+-- a number put in, so that it stands at a place: the rest make room
+unfoldable pub putIn : ℕ → ℕ → List ℕ → List ℕ
+putIn x zero rs = x ∷ rs
+putIn x (suc k) [] = x ∷ []
+putIn x (suc k) (r ∷ rs) = r ∷ putIn x k rs
+
+-- line 4, the factor's length is neither n × n nor 0, or line 7, a position is not below n
+unfoldable pub refused : ℕ → Fed → Bool
+refused n m = not (eqb (m .length) (n * n) || eqb (m .length) 0) || (not (ltb (m .from) n) || not (ltb (m .to) n))
+
+-- a move
+unfoldable pub rowsMoved : ℕ → Fed → List ℕ → List ℕ
+rowsMoved n m rs = cond (refused n m) rs (cond (eqb (m .from) (m .to)) rs (putIn (getD rs (m .from) 0) (m .to) (takeOut (m .from) rs)))
+
+unfoldable pub rowsAfter : ℕ → List Fed → List ℕ → List ℕ
+rowsAfter n [] rs = rs
+rowsAfter n (m ∷ ms) rs = rowsAfter n ms (rowsMoved n m rs)
+
+-- from 0, 1, up to n - 1
+unfoldable pub rowList : ℕ → List Fed → List ℕ
+rowList n ms = rowsAfter n ms (countFrom n 0)
+
+-- ---- forms and their diagonals
+
+-- no line turns the form away, and its subdiagonal entries are all zero, of either sign
+pub record Triangular (f : Format) (n : ℕ) (t : List Float) : Type 0 where
+  pub accepted : formLine f n n t ≡ 0
+  pub zeros : (j : ℕ) → j + 1 < n → zeroBelow f n t j ≡ true
+
+-- the bits of the number in row i, column i
+abbrev pub bitsAt : Format → ℕ → List Float → ℕ → ℕ
+bitsAt f n t i = toBits f (entry n t i i)
+
+abbrev pub SameBits : Format → ℕ → List Float → List Float → Type 0
+SameBits f n a b = (i : ℕ) → i < n → bitsAt f n a i ≡ bitsAt f n b i
+
+abbrev pub PairwiseDifferentBits : Format → ℕ → List Float → Type 0
+PairwiseDifferentBits f n a = (i j : ℕ) → i < n → j < n → (i ≡ j → ⊥) → bitsAt f n a i ≡ bitsAt f n a j → ⊥
+
+abbrev pub NoNanOnDiagonal : Format → ℕ → List Float → Type 0
+NoNanOnDiagonal f n a = (i : ℕ) → i < n → isNan (entry n a i i) ≡ false
+
+-- ---- the claim: two lists end in equal diagonals exactly when their row lists are equal
+
+abbrev pub ListsOfMoves : Type 0
+ListsOfMoves =
+    (f : Format) (n : ℕ) (a b : List Float) (p q : List Move)
+    → Triangular f n a
+    → Triangular f n b
+    → SameBits f n a b
+    → PairwiseDifferentBits f n a
+    → NoNanOnDiagonal f n a
+    → (SameBits f n (formAfter f n p a) (formAfter f n q b) → rowList n (fed p) ≡ rowList n (fed q))
+    × (rowList n (fed p) ≡ rowList n (fed q) → SameBits f n (formAfter f n p a) (formAfter f n q b))

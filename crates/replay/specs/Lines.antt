@@ -1,0 +1,81 @@
+-- What a line of each call shows, by the call's definition in model. Definitions only. Assumes nothing.
+use Prim.Native.Nat.{ℕ}
+use mathlib.Core.Bool.{Bool, cond, _&&_}
+use mathlib.Core.List.{List, _++_, map}
+use lib.Dec.{eqb, leb}
+use lib.ListN.{length, getD, take, drop}
+use lib.Ieee.{Float, binary64, ofBits}
+use Rattle.model.specs.Arith as Arith
+use Rattle.model.specs.Root as Root
+use Rattle.model.specs.Jacobi as Jacobi
+use Rattle.model.specs.Householder as Householder
+use Rattle.replay_text.specs.Float.{isWord, areWords}
+use Rattle.replay.specs.declared.calls.Outcome.{Outcome}
+use Rattle.replay.specs.declared.calls.Outcome.the-variants as Outcome
+
+-- of a line that has the call's words or not, and whose results are the expected ones or not
+abbrev pub judged : Bool → Bool → Outcome
+judged shape same = cond shape (cond same Outcome.Same Outcome.Differs) Outcome.Malformed
+
+-- the number of word i
+abbrev pub at : List ℕ → ℕ → Float
+at w i = ofBits binary64 (getD w i 0)
+
+-- the numbers of k words from word i on
+abbrev pub from : List ℕ → ℕ → ℕ → List Float
+from w i k = map (ofBits binary64) (take k (drop i w))
+
+-- x is the number of word i
+abbrev pub is : List ℕ → ℕ → Float → Bool
+is w i x = isWord x (getD w i 0)
+
+abbrev pub abs : List ℕ → Outcome
+abs w = judged (eqb (length w) 2) (is w 1 (Arith.abs (at w 0)))
+
+abbrev pub abs1 : List ℕ → Outcome
+abs1 w = judged (eqb (length w) 2) (is w 1 (Arith.abs1 (at w 0)))
+
+abbrev pub abs2 : List ℕ → Outcome
+abs2 w = judged (eqb (length w) 2) (is w 1 (Arith.abs2 binary64 (at w 0)))
+
+abbrev pub recip : List ℕ → Outcome
+recip w = judged (eqb (length w) 2) (is w 1 (Arith.recip binary64 (at w 0)))
+
+abbrev pub sqrt : List ℕ → Outcome
+sqrt w = judged (eqb (length w) 2) (is w 1 (Root.sqrt binary64 (at w 0)))
+
+abbrev pub mulPow2 : List ℕ → Outcome
+mulPow2 w = judged (eqb (length w) 3) (is w 2 (Arith.mulPow2 binary64 (at w 0) (at w 1)))
+
+abbrev pub fmax : List ℕ → Outcome
+fmax w = judged (eqb (length w) 3) (is w 2 (Arith.fmax (at w 0) (at w 1)))
+
+abbrev pub fmin : List ℕ → Outcome
+fmin w = judged (eqb (length w) 3) (is w 2 (Arith.fmin (at w 0) (at w 1)))
+
+abbrev pub hypot : List ℕ → Outcome
+hypot w = judged (eqb (length w) 3) (is w 2 (Arith.hypot binary64 (at w 0) (at w 1)))
+
+abbrev pub normL2 : List ℕ → Outcome
+normL2 w = judged (eqb (length w) 8 && leb (getD w 0 0) 6) (is w 7 (Arith.normL2 binary64 (take (getD w 0 0) (from w 1 6))))
+
+abbrev pub rotg : List ℕ → Outcome
+rotg w = let g = Jacobi.rotg binary64 (at w 0) (at w 1) in judged (eqb (length w) 5) (is w 2 (g .rot .c) && is w 3 (g .rot .s) && is w 4 (g .r))
+
+abbrev pub rotation : List ℕ → Jacobi.Rotation
+rotation w = record { c = at w 0; s = at w 1 }
+
+abbrev pub adjoint : List ℕ → Outcome
+adjoint w = let j = Jacobi.adjoint (rotation w) in judged (eqb (length w) 4) (is w 2 (j .c) && is w 3 (j .s))
+
+abbrev pub apply : List ℕ → Outcome
+apply w = let p = Jacobi.applyRight binary64 (rotation w) (at w 2) (at w 3) in judged (eqb (length w) 6) (is w 4 (p .x) && is w 5 (p .y))
+
+abbrev pub makeHouseholderInPlace : List ℕ → Outcome
+makeHouseholderInPlace w =
+    let n = getD w 0 0 in
+    let t = from w 2 5 in
+    let r = Householder.makeHouseholderInPlace binary64 (at w 1) (take n t) in
+    judged (eqb (length w) 17 && leb n 5)
+    (eqb (r .answer) (getD w 7 0) && is w 8 (r .head) && is w 9 (r .tau) && is w 10 (r .headWithBetaInv) && is w 11 (r .norm)
+    && areWords (r .tail ++ drop n t) (take 5 (drop 12 w)))

@@ -1,0 +1,54 @@
+-- NaNs and their patterns, and what `isWord` says. Assumes nothing.
+use mathlib.Core.Path.{_≡_, refl, sym, ap, _∙_}
+use Prim.Native.Nat.{ℕ, _*_, _<_, _^_}
+use mathlib.Core.Bool.{Bool, true, false, not, _&&_, true≢false}
+use lib.Dec.{T, eqb, eqb-refl}
+use lib.Ieee.{Float, nan, inf, fin, binary64, up, down, fits, ne, isNan, ofBits, toBits, nanBits}
+use lib.Ieee.Bits.{is-true, nanBits-is, ofBits-toBits, toBits-ofBits}
+use borrow.Author.Tests.{eqb-true, eq-eqb}
+use Rattle.replay_text.specs.Float.{isWord}
+
+nan-is : (x : Float) → isNan x ≡ true → x ≡ nan
+unfolding isNan
+nan-is nan h = refl
+nan-is (inf s) h = absurd (true≢false (sym h))
+nan-is (fin s m d) h = absurd (true≢false (sym h))
+
+pub word-nan : (w : ℕ) → nanBits binary64 w ≡ true → ofBits binary64 w ≡ nan
+word-nan w h = nan-is _ (sym (nanBits-is binary64 w) ∙ h)
+
+-- x differs from itself where it is a NaN
+pub itself : (x : Float) → ne x x ≡ isNan x
+unfolding ne isNan
+itself nan = refl
+itself (inf true) = refl
+itself (inf false) = refl
+itself (fin true m e) = rw (is-true (eqb (m * up e * down e) (m * up e * down e)) (eqb-refl (m * up e * down e)))
+itself (fin false m e) = rw (is-true (eqb (m * up e * down e) (m * up e * down e)) (eqb-refl (m * up e * down e)))
+
+-- ---- isWord holds exactly where x is the number of the word
+
+same-word : (x : Float) (w : ℕ) → T (fits binary64 x) → eqb (toBits binary64 x) w ≡ true → x ≡ ofBits binary64 w
+same-word x w g h = sym (ofBits-toBits binary64 x g) ∙ ap (ofBits binary64) (eqb-true _ _ h)
+
+and-right : (a b : Bool) → (a && b) ≡ true → b ≡ true
+and-right true b h = h
+and-right false b h = absurd (true≢false (sym h))
+
+pub is-word-only : (x : Float) (w : ℕ) → T (fits binary64 x) → isWord x w ≡ true → x ≡ ofBits binary64 w
+unfolding isWord
+is-word-only x w g h = by (nanBits binary64 w) refl
+  where
+    by : (b : Bool) → nanBits binary64 w ≡ b → x ≡ ofBits binary64 w
+    by true e = nan-is x (rw e at h) ∙ sym (word-nan w e)
+    by false e = same-word x w g (and-right (not (isNan x)) _ (rw e at h))
+
+pub is-word-if : (x : Float) (w : ℕ) → w < 2 ^ 64 → x ≡ ofBits binary64 w → isWord x w ≡ true
+unfolding isWord isNan
+is-word-if x w g h = by (nanBits binary64 w) refl
+  where
+    by : (b : Bool) → nanBits binary64 w ≡ b → isWord x w ≡ true
+    by true e = rw (e, h, word-nan w e)
+    by false e =
+        let n : isNan (ofBits binary64 w) ≡ false = sym (nanBits-is binary64 w) ∙ e in
+        rw (e, h, n) (eq-eqb _ _ (toBits-ofBits binary64 w g (rw n tt)))

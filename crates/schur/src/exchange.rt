@@ -1,0 +1,133 @@
+// The exchange of two neighbouring blocks.
+ghost use mathlib.Core.Path.{_≡_};
+ghost use mathlib.Core.Bool.{_&&_};
+ghost use Prim.Native.Nat.{_+_, _*_, _≤_};
+ghost use lib.Dec.{eqb};
+ghost use lib.Ieee.{binary64};
+ghost use Rattle.model.specs.Form as Form;
+ghost use Rattle.model.specs.Swaps as Swaps;
+ghost use Rattle.model.specs.Exchange as Exchange;
+ghost use Rattle.schur.specs.Run.{Sized, Beside, Rows};
+ghost use Rattle.schur.specs.Done.{Done, Step};
+use crate::places::get;
+use crate::standardise::standardise;
+use crate::swap_11::schur_swap_11;
+use crate::swap_12::schur_swap_12;
+use crate::swap_12::schur_swap_21;
+use crate::swap_22::schur_swap_22;
+
+// How many runs of the four swap routines there were, and how many of them declined.
+pub struct Counts {
+    pub swaps: usize,
+    pub declined: usize,
+}
+
+// One swap of the n1 rows from row j on with the n2 below them.
+fn swap_of(t: &mut [f64], u: &mut [f64], n: usize, j: usize, n1: usize, n2: usize) -> Counts
+    requires { ⌜ Sized n (now t) × Beside n (now u) × Rows n j n1 n2 ⌝ }
+    ensures { λ r. ⌜ Step n (now (u .entry)) (now (t .exit)) (now (u .exit)) (r .swaps) (r .declined) (Swaps.swapOf binary64 n n j n1 n2 (now (t .entry))) × (r .swaps ≡ 1) × (r .declined ≤ 1) ⌝ }
+{
+    if n1 == 1 {
+        if n2 == 1 {
+            schur_swap_11(&mut *t, &mut *u, n, j);
+            return Counts {
+                swaps: 1,
+                declined: 0,
+            };
+        }
+        schur_swap_12(&mut *t, &mut *u, n, j);
+        return Counts {
+            swaps: 1,
+            declined: 0,
+        };
+    }
+    if n2 == 1 {
+        schur_swap_21(&mut *t, &mut *u, n, j);
+        return Counts {
+            swaps: 1,
+            declined: 0,
+        };
+    }
+    let declined = schur_swap_22(&mut *t, &mut *u, n, j);
+    Counts { swaps: 1, declined }
+}
+
+// The rows from row j on standardised if there are two.
+fn standardise_if(t: &mut [f64], u: &mut [f64], n: usize, size: usize, j: usize)
+    requires { ⌜ Sized n (now t) × Beside n (now u) × (j + size ≤ n) ⌝ }
+    ensures { λ _. ⌜ Done n (now (u .entry)) (now (t .exit)) (now (u .exit)) (Exchange.standardiseIf binary64 n n size j (now (t .entry))) ⌝ }
+{
+    if size == 2 {
+        standardise(&mut *t, &mut *u, n, j);
+    }
+}
+
+// One swap, then the new upper block standardised, then the lower, after a decline too.
+fn exchange_whole(t: &mut [f64], u: &mut [f64], n: usize, j: usize, n1: usize, n2: usize) -> Counts
+    requires { ⌜ Sized n (now t) × Beside n (now u) × Rows n j n1 n2 ⌝ }
+    ensures { λ r. ⌜ Step n (now (u .entry)) (now (t .exit)) (now (u .exit)) (r .swaps) (r .declined) (Exchange.exchangeWhole binary64 n n j n1 n2 (now (t .entry))) × (r .swaps ≡ 1) × (r .declined ≤ 1) ⌝ }
+{
+    let counts = swap_of(&mut *t, &mut *u, n, j, n1, n2);
+    standardise_if(&mut *t, &mut *u, n, n2, j);
+    standardise_if(&mut *t, &mut *u, n, n1, j + n2);
+    counts
+}
+
+// Whether the rows from row j on are two with a zero inside.
+fn apart(t: &[f64], n: usize, size: usize, j: usize) -> bool
+    requires { ⌜ Sized n (now t) × (j + size ≤ n) ⌝ }
+    ensures { λ r. ⌜ r ≡ (eqb size 2 && Form.zeroBelow binary64 n (now (t .entry)) j) ⌝ }
+{
+    if size != 2 {
+        return false;
+    }
+    get(t, n, j + 1, j) == 0.0
+}
+
+// The counts of two exchanges.
+fn both(a: Counts, b: Counts) -> Counts
+    requires { ⌜ (a .swaps ≤ 4) × (b .swaps ≤ 4) × (a .declined ≤ 4) × (b .declined ≤ 4) ⌝ }
+    ensures { λ r. ⌜ (r .swaps ≡ a .swaps + b .swaps) × (r .declined ≡ a .declined + b .declined) ⌝ }
+{
+    Counts {
+        swaps: a.swaps + b.swaps,
+        declined: a.declined + b.declined,
+    }
+}
+
+// The exchange of at most three rows. Two rows with a zero inside go one by one.
+fn exchange_three(t: &mut [f64], u: &mut [f64], n: usize, j: usize, n1: usize, n2: usize) -> Counts
+    requires { ⌜ Sized n (now t) × Beside n (now u) × Rows n j n1 n2 × (n1 + n2 ≤ 3) ⌝ }
+    ensures { λ r. ⌜ Step n (now (u .entry)) (now (t .exit)) (now (u .exit)) (r .swaps) (r .declined) (Exchange.exchange binary64 n n j n1 n2 (now (t .entry))) × (r .swaps ≤ 2) × (r .declined ≤ 2) ⌝ }
+{
+    if apart(&*t, n, n1, j) {
+        let a = exchange_whole(&mut *t, &mut *u, n, j + 1, 1, n2);
+        let b = exchange_whole(&mut *t, &mut *u, n, j, 1, n2);
+        return both(a, b);
+    }
+    if apart(&*t, n, n2, j + n1) {
+        let a = exchange_whole(&mut *t, &mut *u, n, j, n1, 1);
+        let b = exchange_whole(&mut *t, &mut *u, n, j + 1, n1, 1);
+        return both(a, b);
+    }
+    exchange_whole(&mut *t, &mut *u, n, j, n1, n2)
+}
+
+// The exchange of the n1 rows from row j on with the n2 below them. Two rows with a zero inside go
+// one by one: of the first two the lower first, of the second two the upper first.
+pub fn exchange(t: &mut [f64], u: &mut [f64], n: usize, j: usize, n1: usize, n2: usize) -> Counts
+    requires { ⌜ Sized n (now t) × Beside n (now u) × Rows n j n1 n2 ⌝ }
+    ensures { λ r. ⌜ Step n (now (u .entry)) (now (t .exit)) (now (u .exit)) (r .swaps) (r .declined) (Exchange.exchange binary64 n n j n1 n2 (now (t .entry))) × (r .swaps ≤ 4) × (r .declined ≤ 4) ⌝ }
+{
+    if apart(&*t, n, n1, j) {
+        let a = exchange_three(&mut *t, &mut *u, n, j + 1, 1, n2);
+        let b = exchange_three(&mut *t, &mut *u, n, j, 1, n2);
+        return both(a, b);
+    }
+    if apart(&*t, n, n2, j + n1) {
+        let a = exchange_three(&mut *t, &mut *u, n, j, n1, 1);
+        let b = exchange_three(&mut *t, &mut *u, n, j + 1, n1, 1);
+        return both(a, b);
+    }
+    exchange_whole(&mut *t, &mut *u, n, j, n1, n2)
+}
