@@ -5,4 +5,3 @@ pub mod Blocks
 pub mod Lines
 pub mod Part
 pub mod Ups
-pub mod WorkedVectors

@@ -55,13 +55,13 @@ fn form_norm(ld: usize, n: usize, t: &[f64]) -> f64
     norm
 }
 
-// `count` numbers from place p on: those of the form negated.
-fn negate_run(t: &[f64], p: usize, count: usize, v: &mut [f64])
-    requires { ⌜ (p + count ≤ length (now t)) × (p + count ≤ length (now v)) ⌝ }
-    ensures { λ _. ⌜ now (v .exit) ≡ Vectors.negatedRun (now (t .entry)) p count 0 (now (v .entry)) ⌝ }
+// `rows` numbers from place p on: those of the form negated.
+fn negate_run(t: &[f64], p: usize, rows: usize, v: &mut [f64])
+    requires { ⌜ (p + rows ≤ length (now t)) × (p + rows ≤ length (now v)) ⌝ }
+    ensures { λ _. ⌜ now (v .exit) ≡ Vectors.negatedRun (now (t .entry)) p rows 0 (now (v .entry)) ⌝ }
 {
     let mut i = 0;
-    while i < count {
+    while i < rows {
         v[p + i] = -t[p + i];
         i += 1;
     }

@@ -10,10 +10,10 @@ use Rattle.evd.proofs.vectors.negate_run.Statement.{statement}
 use Rattle.evd.proofs.vectors.negate_run.Tie as tie
 
 abbrev Inv-loop : tie.InvT-loop
-Inv-loop t p count v₀ i₀ v i = (i ≤ count) × (length v ≡ length v₀) × (negatedRun t p (count - i) i v ≡ negatedRun t p count 0 v₀)
+Inv-loop t p rows v₀ i₀ v i = (i ≤ rows) × (length v ≡ length v₀) × (negatedRun t p (rows - i) i v ≡ negatedRun t p rows 0 v₀)
 
 abbrev μ-loop : tie.MeasureT-loop
-μ-loop t p count v₀ i₀ v i = count - i
+μ-loop t p rows v₀ i₀ v i = rows - i
 
 loop-holds : tie.Need-loop-holds Inv-loop μ-loop
 loop-holds c = (search needs, refl, rw sub-zero)
