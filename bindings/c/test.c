@@ -168,6 +168,16 @@ static void blocks_of_two(void)
         SAME(out[k], x[k]);
 }
 
+/* As README.md has it. */
+static void example(void)
+{
+    double t[9] = {1, 0, 0, 0, 2, 0, 0, 0, 3};
+    size_t out[3];
+    CHECK(vx_reorder_schur(3, t, 9, NULL, 0, 0, 2, out, 3) == VX_DONE);
+    CHECK(t[0] == 2 && t[4] == 3 && t[8] == 1);
+    CHECK(out[0] == 2 && out[1] == 2 && out[2] == 0); /* landed, swaps, declined */
+}
+
 static size_t move(size_t n, size_t t_len, size_t u_len, size_t from, size_t to, size_t out_len)
 {
     return vx_reorder_schur(n, t, t_len, u_len ? u : NULL, u_len, from, to, counts, out_len);
@@ -308,6 +318,7 @@ int main(void)
     rotations();
     reflections();
     blocks_of_two();
+    example();
     moves();
     exchanges();
     refusals();

@@ -77,6 +77,13 @@ class Worked(unittest.TestCase):
         self.assertEqual(vx.lasy2(tl, tr, b), ((1, 2, 3, 4), 1))
         self.refused(4, lambda: vx.lasy2(tl, tr, b[1:]))
 
+    def test_example(self):
+        """As README.md has it."""
+        t = array("d", [1, 0, 0, 0, 2, 0, 0, 0, 3])
+        moved = vx.reorder_schur(3, t, None, 0, 2)
+        self.assertEqual((moved.landed, moved.swaps, moved.declined), (2, 2, 0))
+        self.assertEqual((t[0], t[4], t[8]), (2, 3, 1))
+
     def test_moves(self):
         t = diagonal(1, 2, 3)
         self.assertEqual(vx.reorder_schur(3, t, None, 0, 2), vx.Moved(landed=2, swaps=2, declined=0))
