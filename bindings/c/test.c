@@ -61,6 +61,9 @@ static const double zeros[MOST];
 static const double one_two_three[9] = {1, 0, 0, 0, 2, 0, 0, 0, 3};
 static const double turn[4] = {0, -1, 1, 0}; /* the 2-block of rows (0, 1) and (-1, 0) */
 
+/* Two 2-blocks with equal values and other scales, whose swap declines. */
+static const double alike[16] = {0, -1, 0, 0, 1, 0, 0, 0, 1, 0, 0, -1e-8, 0, 1, 1e8, 0};
+
 static void arithmetic(void)
 {
     const double list[3] = {-2, 3, 6};
@@ -208,6 +211,11 @@ static void moves(void)
     lend(turn, 4);
     CHECK(move(2, 4, 0, 1, 0, 3) == VX_DONE);
     CHECK(counts[0] == 0 && counts[1] == 0 && counts[2] == 0);
+    CHECK(memcmp(t, old_t, sizeof t) == 0);
+
+    lend(alike, 16);
+    CHECK(move(4, 16, 0, 0, 2, 3) == VX_DONE);
+    CHECK(counts[0] == 2 && counts[1] == 1 && counts[2] == 1);
     CHECK(memcmp(t, old_t, sizeof t) == 0);
 
     lend(zeros, 0);

@@ -35,13 +35,16 @@ enum {
     VX_TAIL_LENGTH = 11   /* a reflection's tail has not 1, 2 or 3 numbers */
 };
 
-/* ---- Moves */
+/* ---- Moves
+ *
+ * A swap of two 2-blocks may decline: they stay in place (and are standardised), and a move goes on
+ * as if they had been exchanged. If any declined, the row landed on need not hold the moved block.
+ */
 
 /* Moves the block in row `from` to row `to`, by exchanges of neighbouring blocks, and applies the
  * same rotations and reflections to the columns of the factor u. A position inside a 2-block means
  * the block's first row. u_len is n * n, or 0 for no factor.
- * out, 3 places: the row landed on; the number of swaps; how many of these declined, which leaves
- * their two 2-blocks in place.
+ * out, 3 places: the row landed on; the number of swaps; how many of these declined.
  * Gives 0, 2, 3, 4 (u_len, out_len), 5, 6 or 7 (from, to). */
 size_t vx_reorder_schur(size_t n, double *t, size_t t_len, double *u, size_t u_len, size_t from,
                         size_t to, size_t *out, size_t out_len);

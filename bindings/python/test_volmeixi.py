@@ -101,6 +101,13 @@ class Worked(unittest.TestCase):
         self.assertEqual(t, floats(TURN))
         self.assertEqual(vx.reorder_schur(64, floats([0] * 4096), None, 63, 0).swaps, 63)
 
+    def test_a_swap_that_declines(self):
+        t = floats([0, -1, 0, 0, 1, 0, 0, 0, 1, 0, 0, -1e-8, 0, 1, 1e8, 0])
+        before = t[:]
+        self.assertEqual(vx.reorder_schur(4, t, None, 0, 2), vx.Moved(landed=2, swaps=1, declined=1))
+        self.assertEqual(vx.schur_swap(4, t, None, 0, 2, 2), vx.Exchanged(swaps=1, declined=1))
+        self.assertEqual(t, before)
+
     def test_exchanges(self):
         t = diagonal(1, 2, 3)
         self.assertEqual(vx.schur_swap(3, t, None, 1, 1, 1), vx.Exchanged(swaps=1, declined=0))

@@ -43,7 +43,11 @@ class Refusal(ValueError):
 
 
 class Moved(NamedTuple):
-    """The row landed on, the number of swaps, and how many of these declined."""
+    """The row landed on, the number of swaps, and how many of these declined.
+
+    A swap of two 2-blocks that declines leaves them in place, only standardised, and the move goes
+    on as if they had been exchanged: the row landed on need not hold the moved block then.
+    """
 
     landed: int
     swaps: int

@@ -1,4 +1,7 @@
 //! Exchange and move.
+//!
+//! A swap of two 2-blocks may decline: they stay in place (and are standardised), and a move goes on
+//! as if they had been exchanged.
 
 use crate::Refusal;
 use crate::abi;
@@ -6,11 +9,11 @@ use crate::abi;
 /// What a move did.
 #[derive(Clone, Copy, Debug, PartialEq, Eq)]
 pub struct Moved {
-    /// The row landed on.
+    /// The row landed on. If any swap declined, it need not hold the moved block.
     pub landed: usize,
     /// The number of swaps.
     pub swaps: usize,
-    /// How many of these declined, which leaves their two 2-blocks in place.
+    /// How many of these declined: two 2-blocks that stayed in place, only standardised.
     pub declined: usize,
 }
 
@@ -19,7 +22,7 @@ pub struct Moved {
 pub struct Exchanged {
     /// The number of swaps.
     pub swaps: usize,
-    /// How many of these declined, which leaves their two 2-blocks in place.
+    /// How many of these declined: two 2-blocks that stayed in place, only standardised.
     pub declined: usize,
 }
 

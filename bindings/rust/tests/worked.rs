@@ -101,6 +101,15 @@ fn a_block_on_its_own() {
 }
 
 #[test]
+fn a_swap_that_declines() {
+    let alike = [0.0, -1.0, 0.0, 0.0, 1.0, 0.0, 0.0, 0.0, 1.0, 0.0, 0.0, -1e-8, 0.0, 1.0, 1e8, 0.0];
+    let mut t = alike;
+    assert_eq!(reorder_schur(4, &mut t, None, 0, 2), Ok(Moved { landed: 2, swaps: 1, declined: 1 }));
+    assert_eq!(t, alike);
+    assert_eq!(schur_swap(4, &mut t, None, 0, 2, 2), Ok(Exchanged { swaps: 1, declined: 1 }));
+}
+
+#[test]
 fn eigenvectors() {
     let mut v = [9.0; 4];
     evd_from_real_schur(2, &[1.0, 0.0, 1.0, 2.0], &mut v).unwrap();
