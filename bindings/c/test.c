@@ -1,0 +1,336 @@
+/* The test of volmeixi.h: calls every function, checks document 01's worked values, every number
+ * that can come back, and that a call which is turned away leaves all its buffers.
+ * Prints each check that failed and the count of those that passed; ends with 1 if any failed. */
+#include "volmeixi.h"
+
+#include <math.h>
+#include <stdio.h>
+#include <string.h>
+
+#define MOST (65 * 65)
+#define PLACES(buffer) (sizeof(buffer) / sizeof(*(buffer)))
+#define CHECK(holds) check((holds), #holds, __LINE__)
+#define SAME(x, y) check(same_bits((x), (y)), #x " is " #y, __LINE__)
+
+static int passed, failed;
+
+static void check(int holds, const char *what, int line)
+{
+    if (holds) {
+        passed++;
+        return;
+    }
+    failed++;
+    printf("line %d: not so: %s\n", line, what);
+}
+
+/* All NaNs count as one; the zeros are told apart. */
+static int same_bits(double x, double y)
+{
+    return (isnan(x) && isnan(y)) || memcmp(&x, &y, sizeof x) == 0;
+}
+
+static void fill(double *buffer, double x)
+{
+    for (size_t k = 0; k < MOST; k++)
+        buffer[k] = x;
+}
+
+/* What the buffers of a call hold before it, and a copy that the call does not see. */
+static double t[MOST], u[MOST], old_t[MOST], old_u[MOST];
+static size_t counts[4];
+static const size_t old_counts[4] = {9, 9, 9, 9};
+
+static void lend(const double *form, size_t len)
+{
+    fill(t, 0.0);
+    fill(u, 9.0);
+    memcpy(t, form, len * sizeof *form);
+    memcpy(old_t, t, sizeof t);
+    memcpy(old_u, u, sizeof u);
+    memcpy(counts, old_counts, sizeof counts);
+}
+
+static int untouched(void)
+{
+    return memcmp(t, old_t, sizeof t) == 0 && memcmp(u, old_u, sizeof u) == 0 &&
+           memcmp(counts, old_counts, sizeof counts) == 0;
+}
+
+static const double zeros[MOST];
+static const double one_two_three[9] = {1, 0, 0, 0, 2, 0, 0, 0, 3};
+static const double turn[4] = {0, -1, 1, 0}; /* the 2-block of rows (0, 1) and (-1, 0) */
+
+/* Two 2-blocks with equal values and other scales, whose swap declines. */
+static const double alike[16] = {0, -1, 0, 0, 1, 0, 0, 0, 1, 0, 0, -1e-8, 0, 1, 1e8, 0};
+
+static void arithmetic(void)
+{
+    const double list[3] = {-2, 3, 6};
+    SAME(vx_sqrt(4), 2.0);
+    SAME(vx_sqrt(0x1p-1074), 0x1p-537);
+    SAME(vx_sqrt(-0.0), -0.0);
+    SAME(vx_sqrt(-1), NAN);
+    SAME(vx_sqrt(INFINITY), INFINITY);
+    SAME(vx_hypot(3, 4), 5.0);
+    SAME(vx_hypot(NAN, -INFINITY), INFINITY);
+    SAME(vx_norm_l2(list, 3), vx_hypot(vx_hypot(2, 3), 6));
+    SAME(vx_norm_l2(list, 1), 2.0);
+    SAME(vx_norm_l2(NULL, 0), 0.0);
+    SAME(vx_abs(-3), 3.0);
+    SAME(vx_abs1(-0.0), 0.0);
+    SAME(vx_abs2(-3), 9.0);
+    SAME(vx_recip(4), 0.25);
+    SAME(vx_mul_pow2(3, 0.5), 1.5);
+    SAME(vx_fmax(1, NAN), 1.0);
+    SAME(vx_fmax(NAN, 1), 1.0);
+    SAME(vx_fmax(0.0, -0.0), -0.0);
+    SAME(vx_fmin(1, 2), 1.0);
+    SAME(vx_fmin(2, NAN), 2.0);
+}
+
+static void rotations(void)
+{
+    double out[4] = {9, 9, 9, 9};
+    CHECK(vx_rotg(3, 4, out, 2) == VX_BUFFER_LENGTH);
+    CHECK(vx_adjoint(1, 0, out, 3) == VX_BUFFER_LENGTH);
+    CHECK(vx_apply(1, 0, 5, 6, out, 3) == VX_BUFFER_LENGTH);
+    CHECK(out[0] == 9 && out[1] == 9 && out[2] == 9 && out[3] == 9);
+
+    CHECK(vx_rotg(3, 4, out, 3) == VX_DONE);
+    SAME(out[0], 0.6);
+    SAME(out[1], -0.8);
+    SAME(out[2], 5.0);
+    CHECK(out[3] == 9);
+    CHECK(vx_rotg(7, -0.0, out, 3) == VX_DONE);
+    SAME(out[1], 0.0);
+    CHECK(vx_rotg(0, 7, out, 3) == VX_DONE);
+    SAME(out[1], -1.0);
+
+    CHECK(vx_adjoint(1, 0, out, 2) == VX_DONE);
+    SAME(out[0], 1.0);
+    SAME(out[1], -0.0);
+
+    CHECK(vx_apply(2, 3, 5, 7, out, 2) == VX_DONE);
+    SAME(out[0], 31.0);
+    SAME(out[1], -1.0);
+}
+
+static void reflections(void)
+{
+    double tail[4] = {1, 1, 1, 1}, out[4] = {9, 9, 9, 9};
+    CHECK(vx_make_householder_in_place(1, tail, 4, out, 4) == VX_TAIL_LENGTH);
+    CHECK(vx_make_householder_in_place(1, NULL, 0, out, 4) == VX_TAIL_LENGTH);
+    CHECK(vx_make_householder_in_place(1, tail, 3, out, 3) == VX_BUFFER_LENGTH);
+    CHECK(tail[0] == 1 && tail[1] == 1 && tail[2] == 1 && tail[3] == 1);
+    CHECK(out[0] == 9 && out[1] == 9 && out[2] == 9 && out[3] == 9);
+
+    CHECK(vx_make_householder_in_place(1, tail, 3, out, 4) == VX_DONE);
+    CHECK(tail[0] != 1 && tail[3] == 1);
+
+    /* The sign is the head times the rounded reciprocal of its magnitude: for 49 it is not 1. */
+    tail[0] = 1;
+    CHECK(vx_make_householder_in_place(49, tail, 1, out, 4) == VX_DONE);
+    CHECK(49 * (1.0 / 49) != 1);
+    SAME(out[0], -(49 * (1.0 / 49) * out[3]));
+    SAME(tail[0], out[2]);
+
+    tail[0] = 0x1p-1023;
+    CHECK(vx_make_householder_in_place(0x1p-1023, tail, 1, out, 4) == VX_DONE);
+    SAME(tail[0], 0x1p-1023);
+    SAME(out[0], 0.0);
+    SAME(out[1], INFINITY);
+}
+
+static void blocks_of_two(void)
+{
+    const double real[10] = {7, -2, 0, 5, 7, 0, 5, 0, 0, 1};
+    const double complex[10] = {0, 1, -1, 0, 0, 1, 0, -1, 1, 0};
+    const double tl[4] = {3, 0, 0, 3}, tr[4] = {1, 0, 0, 1}, b[4] = {2, 4, 6, 8};
+    const double x[5] = {1, 2, 3, 4, 1};
+    double out[10];
+    for (size_t k = 0; k < 10; k++)
+        out[k] = 9;
+    CHECK(vx_lahqr_schur22(5, 0, 2, 7, out, 9) == VX_BUFFER_LENGTH);
+    CHECK(vx_lasy2(tl, 3, tr, 4, b, 4, out, 5) == VX_BUFFER_LENGTH);
+    CHECK(vx_lasy2(tl, 4, tr, 3, b, 4, out, 5) == VX_BUFFER_LENGTH);
+    CHECK(vx_lasy2(tl, 4, tr, 4, b, 3, out, 5) == VX_BUFFER_LENGTH);
+    CHECK(vx_lasy2(tl, 4, tr, 4, b, 4, out, 6) == VX_BUFFER_LENGTH);
+    for (size_t k = 0; k < 10; k++)
+        CHECK(out[k] == 9);
+
+    CHECK(vx_lahqr_schur22(5, 0, 2, 7, out, 10) == VX_DONE);
+    for (size_t k = 0; k < 10; k++)
+        CHECK(out[k] == real[k]);
+    CHECK(vx_lahqr_schur22(0, 1, -1, 0, out, 10) == VX_DONE);
+    for (size_t k = 0; k < 10; k++)
+        CHECK(out[k] == complex[k]);
+
+    CHECK(vx_lasy2(tl, 4, tr, 4, b, 4, out, 5) == VX_DONE);
+    for (size_t k = 0; k < 5; k++)
+        SAME(out[k], x[k]);
+}
+
+/* As README.md has it. */
+static void example(void)
+{
+    double t[9] = {1, 0, 0, 0, 2, 0, 0, 0, 3};
+    size_t out[3];
+    CHECK(vx_reorder_schur(3, t, 9, NULL, 0, 0, 2, out, 3) == VX_DONE);
+    CHECK(t[0] == 2 && t[4] == 3 && t[8] == 1);
+    CHECK(out[0] == 2 && out[1] == 2 && out[2] == 0); /* landed, swaps, declined */
+}
+
+static size_t move(size_t n, size_t t_len, size_t u_len, size_t from, size_t to, size_t out_len)
+{
+    return vx_reorder_schur(n, t, t_len, u_len ? u : NULL, u_len, from, to, counts, out_len);
+}
+
+static void moves(void)
+{
+    const double unit[4] = {1, 0, 0, 1}, one_two[4] = {1, 0, 0, 2};
+    const double moved_t[4] = {2, 0, 0, 1}, moved_u[4] = {0, 1, -1, 0};
+
+    lend(one_two_three, 9);
+    CHECK(move(3, 9, 0, 0, 2, 3) == VX_DONE);
+    CHECK(t[0] == 2 && t[4] == 3 && t[8] == 1);
+    CHECK(counts[0] == 2 && counts[1] == 2 && counts[2] == 0);
+    lend(one_two_three, 9);
+    CHECK(move(3, 9, 9, 2, 0, 3) == VX_DONE);
+    CHECK(t[0] == 3 && t[4] == 1 && t[8] == 2);
+    CHECK(counts[0] == 0 && counts[1] == 2 && counts[2] == 0);
+
+    lend(one_two, 4);
+    memcpy(u, unit, sizeof unit);
+    CHECK(move(2, 4, 4, 0, 1, 3) == VX_DONE);
+    for (size_t k = 0; k < 4; k++) {
+        SAME(t[k], moved_t[k]);
+        SAME(u[k], moved_u[k]);
+    }
+
+    lend(turn, 4);
+    CHECK(move(2, 4, 0, 1, 0, 3) == VX_DONE);
+    CHECK(counts[0] == 0 && counts[1] == 0 && counts[2] == 0);
+    CHECK(memcmp(t, old_t, sizeof t) == 0);
+
+    lend(alike, 16);
+    CHECK(move(4, 16, 0, 0, 2, 3) == VX_DONE);
+    CHECK(counts[0] == 2 && counts[1] == 1 && counts[2] == 1);
+    CHECK(memcmp(t, old_t, sizeof t) == 0);
+
+    lend(zeros, 0);
+    CHECK(move(64, 64 * 64, 0, 63, 0, 3) == VX_DONE);
+    CHECK(counts[0] == 0 && counts[1] == 63);
+}
+
+static void exchanges(void)
+{
+    lend(one_two_three, 9);
+    CHECK(vx_schur_swap(3, t, 9, NULL, 0, 1, 1, 1, counts, 2) == VX_DONE);
+    CHECK(t[0] == 1 && t[4] == 3 && t[8] == 2);
+    CHECK(counts[0] == 1 && counts[1] == 0 && counts[2] == 9);
+}
+
+/* The number that a call on the lent buffers gives, all of which it must leave. */
+static size_t refused_move(size_t n, size_t t_len, size_t u_len, size_t from, size_t to,
+                           size_t out_len)
+{
+    size_t number = move(n, t_len, u_len, from, to, out_len);
+    CHECK(untouched());
+    return number;
+}
+
+static size_t refused_exchange(size_t n, size_t t_len, size_t u_len, size_t j0, size_t n1,
+                               size_t n2, size_t out_len)
+{
+    size_t number = vx_schur_swap(n, t, t_len, u, u_len, j0, n1, n2, counts, out_len);
+    CHECK(untouched());
+    return number;
+}
+
+static void refusals(void)
+{
+    double deep[9], touching[9];
+    memcpy(deep, one_two_three, sizeof deep);
+    memcpy(touching, one_two_three, sizeof touching);
+    deep[2] = NAN;
+    touching[1] = touching[5] = 1;
+
+    lend(one_two_three, 9);
+    CHECK(refused_move(0, 0, 0, 0, 0, 3) == VX_ROWS);
+    CHECK(refused_move(65, 65 * 65, 0, 0, 1, 3) == VX_ROWS);
+    CHECK(refused_move(3, 8, 0, 0, 1, 3) == VX_FORM_LENGTH);
+    CHECK(refused_move(3, 9, 8, 0, 1, 3) == VX_BUFFER_LENGTH);
+    CHECK(refused_move(3, 9, 9, 0, 1, 4) == VX_BUFFER_LENGTH);
+    CHECK(refused_move(3, 9, 9, 3, 0, 3) == VX_POSITION);
+    CHECK(refused_move(3, 9, 9, 0, 3, 3) == VX_POSITION);
+    CHECK(refused_exchange(0, 0, 0, 0, 1, 1, 2) == VX_ROWS);
+    CHECK(refused_exchange(65, 65 * 65, 0, 0, 1, 1, 2) == VX_ROWS);
+    CHECK(refused_exchange(3, 10, 9, 0, 1, 1, 2) == VX_FORM_LENGTH);
+    CHECK(refused_exchange(3, 9, 1, 0, 1, 1, 2) == VX_BUFFER_LENGTH);
+    CHECK(refused_exchange(3, 9, 9, 0, 1, 1, 3) == VX_BUFFER_LENGTH);
+    CHECK(refused_exchange(3, 9, 9, 3, 1, 1, 2) == VX_POSITION);
+    CHECK(refused_exchange(3, 9, 9, 0, 3, 1, 2) == VX_BLOCK_SIZE);
+    CHECK(refused_exchange(3, 9, 9, 0, 1, 0, 2) == VX_BLOCK_SIZE);
+    CHECK(refused_exchange(3, 9, 9, 2, 1, 1, 2) == VX_PAST_END);
+    lend(turn, 4);
+    CHECK(refused_exchange(2, 4, 4, 0, 1, 1, 2) == VX_ACROSS);
+    lend(deep, 9);
+    CHECK(refused_move(3, 9, 9, 0, 1, 3) == VX_DEEP_ENTRY);
+    CHECK(refused_exchange(3, 9, 9, 0, 1, 1, 2) == VX_DEEP_ENTRY);
+    lend(touching, 9);
+    CHECK(refused_move(3, 9, 9, 0, 1, 3) == VX_TOUCHING);
+    CHECK(refused_exchange(3, 9, 9, 0, 1, 1, 2) == VX_TOUCHING);
+
+    /* Values and vectors, whose results would go to u. */
+    CHECK(vx_block_values(0, t, 0, u, 0, u + 64, 0) == VX_ROWS);
+    CHECK(vx_block_values(65, t, 65 * 65, u, 65, u + 65, 65) == VX_ROWS);
+    CHECK(vx_block_values(3, t, 8, u, 3, u + 3, 3) == VX_FORM_LENGTH);
+    CHECK(vx_block_values(3, t, 9, u, 2, u + 3, 3) == VX_BUFFER_LENGTH);
+    CHECK(vx_block_values(3, t, 9, u, 3, u + 3, 4) == VX_BUFFER_LENGTH);
+    CHECK(vx_block_values(3, t, 9, u, 3, u + 3, 3) == VX_TOUCHING);
+    CHECK(vx_evd_from_real_schur(0, t, 0, u, 0) == VX_ROWS);
+    CHECK(vx_evd_from_real_schur(65, t, 65 * 65, u, 65 * 65) == VX_ROWS);
+    CHECK(vx_evd_from_real_schur(3, t, 8, u, 9) == VX_FORM_LENGTH);
+    CHECK(vx_evd_from_real_schur(3, t, 9, u, 8) == VX_BUFFER_LENGTH);
+    CHECK(vx_evd_from_real_schur(3, t, 9, u, 9) == VX_TOUCHING);
+    CHECK(vx_block_values(3, deep, 9, u, 3, u + 3, 3) == VX_DEEP_ENTRY);
+    CHECK(vx_evd_from_real_schur(3, deep, 9, u, 9) == VX_DEEP_ENTRY);
+    CHECK(untouched());
+}
+
+static void values_and_vectors(void)
+{
+    const double upper[4] = {1, 0, 1, 2};
+    double re[2], im[2], v[4] = {9, 9, 9, 9};
+    CHECK(vx_block_values(2, turn, 4, re, PLACES(re), im, PLACES(im)) == VX_DONE);
+    CHECK(re[0] == 0 && re[1] == 0 && im[0] == 1 && im[1] == -1);
+    CHECK(vx_block_values(2, upper, 4, re, PLACES(re), im, PLACES(im)) == VX_DONE);
+    CHECK(re[0] == 1 && re[1] == 2);
+    SAME(im[0], 0.0);
+
+    CHECK(vx_evd_from_real_schur(2, upper, 4, v, PLACES(v)) == VX_DONE);
+    CHECK(v[0] == 1 && v[2] == 1 && v[3] == 1);
+    CHECK(vx_evd_from_real_schur(2, zeros, 4, v, PLACES(v)) == VX_DONE);
+    SAME(v[2], -0.0);
+    SAME(v[1], 9.0);
+
+    fill(u, 9.0);
+    CHECK(vx_evd_from_real_schur(64, zeros, 64 * 64, u, 64 * 64) == VX_DONE);
+    CHECK(vx_block_values(64, zeros, 64 * 64, u, 64, u + 64, 64) == VX_DONE);
+}
+
+int main(void)
+{
+    arithmetic();
+    rotations();
+    reflections();
+    blocks_of_two();
+    example();
+    moves();
+    exchanges();
+    refusals();
+    values_and_vectors();
+    printf("%d checks passed, %d failed\n", passed, failed);
+    return failed != 0;
+}

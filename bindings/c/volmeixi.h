@@ -1,0 +1,150 @@
+/* The calls of libvolmeixi.a for C and C++: reordering of real Schur forms, and its parts.
+ *
+ * A form is n rows by n columns of double, column after column: row i, column j stands at
+ * i + n * j; rows and columns count from 0; n is 1 to 64. A 2-block stands where the entry just
+ * below the diagonal, at (j + 1, j), is not zero (a NaN is not zero, minus zero is); all other rows
+ * are 1-blocks. A factor has the same layout.
+ *
+ * Every buffer is a pointer and the number of its places; with 0 places it is not looked at and
+ * the pointer may be NULL. Buffers of one call must not overlap, save those that are all const.
+ *
+ * A call that gives a size_t gives 0 when it was carried out, or the number of the first line
+ * below that applies. Then it has changed no buffer at all. Each call names the lines that it can
+ * give. No number of a form is refused: NaN, infinities and subnormals are worked with.
+ */
+#ifndef VOLMEIXI_H
+#define VOLMEIXI_H
+
+#include <stddef.h>
+
+#ifdef __cplusplus
+extern "C" {
+#endif
+
+enum {
+    VX_DONE = 0,          /* carried out */
+    VX_ROWS = 2,          /* n is 0 or above 64 */
+    VX_FORM_LENGTH = 3,   /* the form's length is not n * n */
+    VX_BUFFER_LENGTH = 4, /* another buffer's length is not the one that the call asks for */
+    VX_DEEP_ENTRY = 5,    /* an entry more than one row below the diagonal is not zero */
+    VX_TOUCHING = 6,      /* two neighbouring entries just below the diagonal are both not zero */
+    VX_POSITION = 7,      /* a position is not below n */
+    VX_BLOCK_SIZE = 8,    /* n1 or n2 of an exchange is not 1 or 2 */
+    VX_PAST_END = 9,      /* the rows of an exchange, j0 + n1 + n2, run past n */
+    VX_ACROSS = 10,       /* a 2-block lies across an exchange's upper edge, middle or lower edge */
+    VX_TAIL_LENGTH = 11   /* a reflection's tail has not 1, 2 or 3 numbers */
+};
+
+/* ---- Moves
+ *
+ * A swap of two 2-blocks may decline: they stay in place (and are standardised), and a move goes on
+ * as if they had been exchanged. If any declined, the row landed on need not hold the moved block.
+ */
+
+/* Moves the block in row `from` to row `to`, by exchanges of neighbouring blocks, and applies the
+ * same rotations and reflections to the columns of the factor u. A position inside a 2-block means
+ * the block's first row. u_len is n * n, or 0 for no factor.
+ * out, 3 places: the row landed on; the number of swaps; how many of these declined.
+ * Gives 0, 2, 3, 4 (u_len, out_len), 5, 6 or 7 (from, to). */
+size_t vx_reorder_schur(size_t n, double *t, size_t t_len, double *u, size_t u_len, size_t from,
+                        size_t to, size_t *out, size_t out_len);
+
+/* Exchanges the n1 rows from row j0 on with the n2 rows below them. u as in vx_reorder_schur.
+ * out, 2 places: the number of swaps; how many of these declined.
+ * Gives 0, 2, 3, 4 (u_len, out_len), 5, 6, 7 (j0), 8, 9 or 10. */
+size_t vx_schur_swap(size_t n, double *t, size_t t_len, double *u, size_t u_len, size_t j0,
+                     size_t n1, size_t n2, size_t *out, size_t out_len);
+
+/* ---- Values and vectors */
+
+/* The values of the form's blocks, to re and im, n places each. A 1-block gives its diagonal number
+ * and +0; a 2-block its first diagonal number twice, with m and then -m, where m is the root of the
+ * lower entry's magnitude times the root of the upper's.
+ * Gives 0, 2, 3, 4 (re_len, im_len), 5 or 6. */
+size_t vx_block_values(size_t n, const double *t, size_t t_len, double *re, size_t re_len,
+                       double *im, size_t im_len);
+
+/* The vectors of the form, to v, n * n places, column after column. A 1-block's column is its
+ * vector; a 2-block's two columns are the real and the imaginary part. Column j is the n places
+ * from n * j on. It is written from row 0 to the last row of its block; the rest stays as it was,
+ * so fill v with zeros first if the whole column is read.
+ * Gives 0, 2, 3, 4 (v_len), 5 or 6. */
+size_t vx_evd_from_real_schur(size_t n, const double *t, size_t t_len, double *v, size_t v_len);
+
+/* ---- Blocks of two rows */
+
+/* Standardises the block of rows (a, b) and (c, d).
+ * out, 10 places: the new a, b, c, d; the real and the imaginary part of the first value, then of
+ * the second; cs and sn of the rotation. The values are complex if the new c is not zero.
+ * Gives 0 or 4 (out_len). */
+size_t vx_lahqr_schur22(double a, double b, double c, double d, double *out, size_t out_len);
+
+/* Solves tl * x - x * tr = scale * b for x. tl, tr and b have 4 places each, column after column.
+ * out, 5 places: x, column after column; scale.
+ * Gives 0 or 4 (any of the four lengths). */
+size_t vx_lasy2(const double *tl, size_t tl_len, const double *tr, size_t tr_len, const double *b,
+                size_t b_len, double *out, size_t out_len);
+
+/* ---- Rotations and reflections */
+
+/* The rotation with c * p - s * q = r and s * p + c * q = 0, up to rounding.
+ * out, 3 places: c, s, r.
+ * Gives 0 or 4 (out_len). */
+size_t vx_rotg(double p, double q, double *out, size_t out_len);
+
+/* The rotation back: s negated, a zero's sign too.
+ * out, 2 places: c, s.
+ * Gives 0 or 4 (out_len). */
+size_t vx_adjoint(double c, double s, double *out, size_t out_len);
+
+/* The rotation applied on the right to one pair.
+ * out, 2 places: c * x + s * y, c * y - s * x.
+ * Gives 0 or 4 (out_len). */
+size_t vx_apply(double c, double s, double x, double y, double *out, size_t out_len);
+
+/* The reflection that takes the head and the tail to a new head and zeros. The tail, 1 to 3 places,
+ * becomes the reflection's own; if its norm is below 2^-1022 it stays, and tau is infinite.
+ * out, 4 places: the new head, tau, head_with_beta_inv, the norm of head and tail.
+ * Gives 0, 4 (out_len) or 11. */
+size_t vx_make_householder_in_place(double head, double *tail, size_t tail_len, double *out,
+                                    size_t out_len);
+
+/* ---- Arithmetic: nothing is turned away, each gives its result */
+
+/* The magnitude. */
+double vx_abs(double x);
+
+/* The same, under the name that the Rust has for it. */
+double vx_abs1(double x);
+
+/* x * x. */
+double vx_abs2(double x);
+
+/* 1 / x. */
+double vx_recip(double x);
+
+/* x * p. */
+double vx_mul_pow2(double x, double p);
+
+/* p where p > q or q is a NaN, else q. */
+double vx_fmax(double p, double q);
+
+/* p where p < q or q is a NaN, else q. */
+double vx_fmin(double p, double q);
+
+/* The square root of IEEE 754: NaN of a NaN or a number below zero; zeros and plus infinity give
+ * themselves; all else gives the nearest double. */
+double vx_sqrt(double x);
+
+/* Infinity if either is infinite; else NaN if either is; else, with the larger magnitude g and the
+ * smaller h, +0 if g is zero, otherwise g * sqrt(1 + (h / g) * (h / g)). */
+double vx_hypot(double p, double q);
+
+/* The magnitude of the first number, then vx_hypot with each next; of no number, +0. */
+double vx_norm_l2(const double *x, size_t x_len);
+
+#ifdef __cplusplus
+}
+#endif
+
+#endif

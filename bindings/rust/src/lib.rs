@@ -1,0 +1,30 @@
+//! Safe calls of libvolmeixi.a: reordering of real Schur forms, and its parts.
+//!
+//! A form is n rows by n columns of f64, column after column: row i, column j stands at i + n × j.
+//! Rows and columns count from 0; n is 1 to 64. A 2-block stands where the entry just below the
+//! diagonal, at (j + 1, j), is not zero (a NaN is not zero, minus zero is); all other rows are
+//! 1-blocks. A factor has the same layout. No number of a form is refused: NaN, infinities and
+//! subnormals are worked with.
+//!
+//! ```
+//! let mut t = [1.0, 0.0, 0.0, 0.0, 2.0, 0.0, 0.0, 0.0, 3.0];
+//! let moved = volmeixi::reorder_schur(3, &mut t, None, 0, 2)?;
+//! assert_eq!((moved.landed, moved.swaps, moved.declined), (2, 2, 0));
+//! assert_eq!([t[0], t[4], t[8]], [2.0, 3.0, 1.0]);
+//! # Ok::<(), volmeixi::Refusal>(())
+//! ```
+
+mod abi;
+mod arithmetic;
+mod blocks;
+mod moves;
+mod refusal;
+mod small;
+mod vectors;
+
+pub use arithmetic::{abs, abs1, abs2, fmax, fmin, hypot, mul_pow2, norm_l2, recip, sqrt};
+pub use blocks::{Eigenvalues, Standardised, Sylvester, lahqr_schur22, lasy2};
+pub use moves::{Exchanged, Moved, reorder_schur, schur_swap};
+pub use refusal::Refusal;
+pub use small::{JacobiRotation, Reflection, RotationWith, adjoint, apply, make_householder_in_place, rotg};
+pub use vectors::{block_values, column, evd_from_real_schur};

@@ -1,0 +1,99 @@
+//! Exchange and move.
+//!
+//! A swap of two 2-blocks may decline: they stay in place (and are standardised), and a move goes on
+//! as if they had been exchanged.
+
+use crate::Refusal;
+use crate::abi;
+
+/// What a move did.
+#[derive(Clone, Copy, Debug, PartialEq, Eq)]
+pub struct Moved {
+    /// The row landed on. If any swap declined, it need not hold the moved block.
+    pub landed: usize,
+    /// The number of swaps.
+    pub swaps: usize,
+    /// How many of these declined: two 2-blocks that stayed in place, only standardised.
+    pub declined: usize,
+}
+
+/// What an exchange did.
+#[derive(Clone, Copy, Debug, PartialEq, Eq)]
+pub struct Exchanged {
+    /// The number of swaps.
+    pub swaps: usize,
+    /// How many of these declined: two 2-blocks that stayed in place, only standardised.
+    pub declined: usize,
+}
+
+/// Moves the block in row `from` of the form t to row `to`, by exchanges of neighbouring blocks, and
+/// applies the same rotations and reflections to the columns of the factor u. A position inside a
+/// 2-block means the block's first row. An empty factor is none.
+///
+/// Refused by, in this order, [`Refusal::Rows`], [`FormLength`](Refusal::FormLength),
+/// [`BufferLength`](Refusal::BufferLength) (the factor's), [`DeepEntry`](Refusal::DeepEntry),
+/// [`Touching`](Refusal::Touching), [`Position`](Refusal::Position).
+///
+/// ```
+/// let mut t = [1.0, 0.0, 0.0, 2.0];
+/// let mut u = [1.0, 0.0, 0.0, 1.0];
+/// let moved = volmeixi::reorder_schur(2, &mut t, Some(&mut u), 0, 1)?;
+/// assert_eq!(moved, volmeixi::Moved { landed: 1, swaps: 1, declined: 0 });
+/// assert_eq!(t, [2.0, 0.0, 0.0, 1.0]);
+/// assert_eq!(u, [0.0, 1.0, -1.0, 0.0]);
+/// # Ok::<(), volmeixi::Refusal>(())
+/// ```
+pub fn reorder_schur(n: usize, t: &mut [f64], u: Option<&mut [f64]>, from: usize, to: usize) -> Result<Moved, Refusal> {
+    let u = u.unwrap_or_default();
+    let mut out = [0; 3];
+    // SAFETY: each pointer and length are those of a slice, and these are lent apart.
+    Refusal::of(unsafe {
+        abi::vx_reorder_schur(
+            n,
+            t.as_mut_ptr(),
+            t.len(),
+            u.as_mut_ptr(),
+            u.len(),
+            from,
+            to,
+            out.as_mut_ptr(),
+            out.len(),
+        )
+    })?;
+    let [landed, swaps, declined] = out;
+    Ok(Moved { landed, swaps, declined })
+}
+
+/// Exchanges the n1 rows of the form t from row j0 on with the n2 rows below them; the factor is as
+/// in [`reorder_schur`].
+///
+/// Refused by what refuses a move (`Position` is j0's), then [`Refusal::BlockSize`],
+/// [`PastEnd`](Refusal::PastEnd), [`Across`](Refusal::Across).
+///
+/// ```
+/// let mut t = [1.0, 0.0, 0.0, 2.0];
+/// let done = volmeixi::schur_swap(2, &mut t, None, 0, 1, 1)?;
+/// assert_eq!((done.swaps, done.declined), (1, 0));
+/// assert_eq!(t, [2.0, 0.0, 0.0, 1.0]);
+///
+/// let mut block = [0.0, -1.0, 1.0, 0.0];
+/// assert_eq!(volmeixi::schur_swap(2, &mut block, None, 0, 1, 1), Err(volmeixi::Refusal::Across));
+/// # Ok::<(), volmeixi::Refusal>(())
+/// ```
+pub fn schur_swap(
+    n: usize,
+    t: &mut [f64],
+    u: Option<&mut [f64]>,
+    j0: usize,
+    n1: usize,
+    n2: usize,
+) -> Result<Exchanged, Refusal> {
+    let u = u.unwrap_or_default();
+    let mut out = [0; 2];
+    // SAFETY: as in reorder_schur.
+    Refusal::of(unsafe {
+        abi::vx_schur_swap(n, t.as_mut_ptr(), t.len(), u.as_mut_ptr(), u.len(), j0, n1, n2, out.as_mut_ptr(), out.len())
+    })?;
+    let [swaps, declined] = out;
+    Ok(Exchanged { swaps, declined })
+}

@@ -1,0 +1,74 @@
+//! Why a call was turned away.
+
+use std::fmt;
+
+/// Why a call was turned away: the first line of the list that applies. No buffer has changed then.
+///
+/// ```
+/// let refusal = volmeixi::reorder_schur(2, &mut [1.0, 0.0, 0.0, 2.0], None, 0, 2).unwrap_err();
+/// assert_eq!(refusal, volmeixi::Refusal::Position);
+/// assert_eq!(refusal.number(), 7);
+/// assert_eq!(refusal.to_string(), "a position or column number is not below n");
+/// ```
+#[derive(Clone, Copy, Debug, PartialEq, Eq, Hash)]
+pub enum Refusal {
+    /// 2: n is 0 or above 64.
+    Rows,
+    /// 3: the form's length is not n × n.
+    FormLength,
+    /// 4: a further buffer's length is wrong.
+    BufferLength,
+    /// 5: an entry more than one row below the diagonal is not zero.
+    DeepEntry,
+    /// 6: two neighbouring entries just below the diagonal are both not zero.
+    Touching,
+    /// 7: a position or column number is not below n.
+    Position,
+    /// 8: n1 or n2 of an exchange is not 1 or 2.
+    BlockSize,
+    /// 9: the rows of an exchange run past n.
+    PastEnd,
+    /// 10: a 2-block lies across an edge of an exchange.
+    Across,
+    /// 11: a reflection's tail has not 1, 2 or 3 numbers.
+    TailLength,
+}
+
+use Refusal::*;
+
+/// In the order of their numbers, from 2 on.
+const ALL: [Refusal; 10] =
+    [Rows, FormLength, BufferLength, DeepEntry, Touching, Position, BlockSize, PastEnd, Across, TailLength];
+
+impl Refusal {
+    /// The line's number, 2 to 11, as the calls for C give it.
+    pub fn number(self) -> usize {
+        self as usize + 2
+    }
+
+    /// `Ok` for 0.
+    pub(crate) fn of(number: usize) -> Result<(), Refusal> {
+        if number == 0 { Ok(()) } else { Err(ALL[number - 2]) }
+    }
+}
+
+impl fmt::Display for Refusal {
+    fn fmt(&self, f: &mut fmt::Formatter<'_>) -> fmt::Result {
+        f.write_str(match self {
+            Rows => "the number of rows n is 0 or above 64",
+            FormLength => "the form's length is not n times n",
+            BufferLength => {
+                "the length of a further buffer is wrong: a factor and vectors need n times n numbers, block values n"
+            }
+            DeepEntry => "the form has an entry more than one row below the diagonal that is not zero",
+            Touching => "the form has two neighbouring entries just below the diagonal that are both not zero",
+            Position => "a position or column number is not below n",
+            BlockSize => "a block size of the exchange is not 1 or 2",
+            PastEnd => "the rows of the exchange run past the last row of the form",
+            Across => "a 2-block lies across the upper edge, the middle or the lower edge of the exchange",
+            TailLength => "the tail of a reflection has not 1, 2 or 3 numbers",
+        })
+    }
+}
+
+impl std::error::Error for Refusal {}
