@@ -7,6 +7,7 @@ mod calls;
 mod compare;
 mod generate;
 mod note;
+mod picked;
 mod record;
 mod refuse;
 mod sheet;

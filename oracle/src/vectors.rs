@@ -5,6 +5,7 @@
 use crate::calls;
 use crate::generate::floats::{EDGES, PATTERNS};
 use crate::generate::{self, USUAL};
+use crate::picked::picked;
 use crate::record::{Kind, Record, Value, find};
 use std::io::{self, Write};
 
@@ -24,6 +25,8 @@ const STORED: &[(&str, u64)] = &[
     ("adjoint", 75),
     ("apply", 200),
     ("make_householder_in_place", 300),
+    ("lahqr_schur22", 400),
+    ("lasy2", 400),
 ];
 
 const SEED: u64 = 1;
@@ -66,7 +69,8 @@ pub fn write(names: &[&str], extent: &Extent, out: &mut impl Write) -> io::Resul
     Ok(())
 }
 
-/// Every pattern, or every pattern against every pattern, lists of every length; then random cases.
+/// Every pattern, or every pattern against every pattern, lists of every length, or cases chosen one
+/// by one; then random cases.
 fn cases(name: &str, random: u64, extent: &Extent) -> Vec<Record> {
     let call = find(name).expect("a stored call");
     let mut cases = match call.given {
@@ -84,14 +88,20 @@ fn cases(name: &str, random: u64, extent: &Extent) -> Vec<Record> {
             let lists = single.chain((0..=NORM_PLACES).map(|len| vec![3.0; len]));
             lists.map(|list| Record::new(call.name).list(x, list)).collect()
         }
-        [(c, Kind::Float), (s, Kind::Float), (x, Kind::Float), (y, Kind::Float)] => {
+        [(c, Kind::Float), (s, Kind::Float), (x, Kind::Float), (y, Kind::Float)] if name == "apply" => {
             pairs(call.name, extent, |case, p, q| case.float(c, p).float(s, q).float(x, q).float(y, p))
         }
-        _ => Vec::new(),
+        _ => picked(call.name),
     };
     let drawn = (0..).map(|index| generate::case(call.name, SEED, index, USUAL));
-    cases.extend(drawn.filter(|case| case.find("out").is_none()).take(random.min(extent.random) as usize));
+    cases.extend(drawn.filter(storable).take(random.min(extent.random) as usize));
     cases
+}
+
+/// The stored lines have no buffer of results, and lasy2's lists are of four words.
+fn storable(case: &Record) -> bool {
+    let lists = ["tl", "tr", "b"];
+    case.find("out").is_none() && (case.call != "lasy2" || lists.iter().all(|key| case.l(key).len() == 4))
 }
 
 fn pairs(name: &'static str, extent: &Extent, case: impl Fn(Record, f64, f64) -> Record) -> Vec<Record> {
@@ -107,12 +117,17 @@ fn words(case: &Record) -> Vec<u64> {
             [vec![case.l("x").len() as u64], padded(case.l("x"), NORM_PLACES), vec![answer.f("r").to_bits()]].concat()
         }
         "make_householder_in_place" => reflection(case, &answer),
+        "lasy2" => ["tl", "tr", "b"].iter().flat_map(|key| bits(case.l(key))).chain(floats(&answer)).collect(),
         _ => floats(case).chain(floats(&answer)).collect(),
     }
 }
 
 fn floats(record: &Record) -> impl Iterator<Item = u64> {
     record.fields.iter().filter_map(|(_, value)| if let Value::Float(x) = value { Some(x.to_bits()) } else { None })
+}
+
+fn bits(list: &[f64]) -> impl Iterator<Item = u64> {
+    list.iter().map(|x| x.to_bits())
 }
 
 fn padded(list: &[f64], places: usize) -> Vec<u64> {

@@ -1,7 +1,7 @@
 -- What a line of each call shows, by the call's definition in model. Definitions only. Assumes nothing.
-use Prim.Native.Nat.{ℕ}
+use Prim.Native.Nat.{ℕ, _+_}
 use mathlib.Core.Bool.{Bool, cond, _&&_}
-use mathlib.Core.List.{List, _++_, map}
+use mathlib.Core.List.{List, [], _∷_, _++_, map}
 use lib.Dec.{eqb, leb}
 use lib.ListN.{length, getD, take, drop}
 use lib.Ieee.{Float, binary64, ofBits}
@@ -9,6 +9,8 @@ use Rattle.model.specs.Arith as Arith
 use Rattle.model.specs.Root as Root
 use Rattle.model.specs.Jacobi as Jacobi
 use Rattle.model.specs.Householder as Householder
+use Rattle.model.specs.Schur22 as Schur22
+use Rattle.model.specs.Lasy2 as Lasy2
 use Rattle.replay_text.specs.Float.{isWord, areWords}
 use Rattle.replay.specs.declared.calls.Outcome.{Outcome}
 use Rattle.replay.specs.declared.calls.Outcome.the-variants as Outcome
@@ -79,3 +81,28 @@ makeHouseholderInPlace w =
     judged (eqb (length w) 17 && leb n 5)
     (eqb (r .answer) (getD w 7 0) && is w 8 (r .head) && is w 9 (r .tau) && is w 10 (r .headWithBetaInv) && is w 11 (r .norm)
     && areWords (r .tail ++ drop n t) (take 5 (drop 12 w)))
+
+-- the numbers of a block and its values, as they stand in a line of lahqr_schur22
+unfoldable pub isBlock : List ℕ → Schur22.Block → Bool
+isBlock w x = is w 4 (x .a) && is w 5 (x .b) && is w 6 (x .c) && is w 7 (x .d) && is w 12 (x .cs) && is w 13 (x .sn)
+
+unfoldable pub isValues : List ℕ → Schur22.Values → Bool
+isValues w v = is w 8 (v .re1) && is w 9 (v .im1) && is w 10 (v .re2) && is w 11 (v .im2)
+
+abbrev pub lahqrSchur22 : List ℕ → Outcome
+lahqrSchur22 w =
+    let s = Schur22.lahqrSchur22 binary64 (at w 0) (at w 1) (at w 2) (at w 3) in
+    judged (eqb (length w) 14) (isBlock w (s .block) && isValues w (Schur22.valuesOf binary64 (s .eigenvalues)))
+
+-- the rows of four words, column after column
+abbrev pub square : ℕ → ℕ → ℕ → ℕ → List (List Float)
+square a c b d = (ofBits binary64 a ∷ ofBits binary64 b ∷ []) ∷ (ofBits binary64 c ∷ ofBits binary64 d ∷ []) ∷ []
+
+-- the same from word i on
+abbrev pub squareFrom : List ℕ → ℕ → List (List Float)
+squareFrom w i = square (getD w i 0) (getD w (i + 1) 0) (getD w (i + 2) 0) (getD w (i + 3) 0)
+
+abbrev pub lasy2 : List ℕ → Outcome
+lasy2 w =
+    let s = Lasy2.lasy2 binary64 (squareFrom w 0) (squareFrom w 4) (squareFrom w 8) in
+    judged (eqb (length w) 17) (is w 12 (s .x00) && is w 13 (s .x10) && is w 14 (s .x01) && is w 15 (s .x11) && is w 16 (s .scale))

@@ -17,7 +17,7 @@ pub enum Outcome {
     Malformed,
 }
 
-fn judge(same: bool) -> Outcome
+pub fn judge(same: bool) -> Outcome
     ensures { λ r. ⌜ r ≡ cond same Outcome.Same Outcome.Differs ⌝ }
 {
     if same {

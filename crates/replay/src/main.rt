@@ -1,6 +1,7 @@
 // Runs stored vectors: each line of standard input is a call's name, an index, what the call is
 // given and what the Rust gave. It prints of each call how many lines were run and how many of
 // them came out otherwise.
+mod blocks;
 mod calls;
 mod line;
 mod report;

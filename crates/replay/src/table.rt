@@ -1,14 +1,15 @@
 // The calls by number, with their names and the functions that run them. A further call takes one
 // line in `name_of`, one in `run`, and one more in CALLS and ROWS.
 ghost use Prim.Native.Nat.{_<_};
+use crate::blocks;
 use crate::calls;
 use crate::calls::Outcome;
 
 // How many calls there are. It is also the number of what is no call.
-pub const CALLS: usize = 14;
+pub const CALLS: usize = 16;
 
 // The rows of the counts: one of each call, and one of what is no call.
-pub const ROWS: usize = 15;
+pub const ROWS: usize = 17;
 
 // The name of a call, with spaces after it; what is no call has none.
 pub fn name_of(call: usize) -> [u8; 28] {
@@ -27,6 +28,8 @@ pub fn name_of(call: usize) -> [u8; 28] {
         11 => *b"adjoint                     ",
         12 => *b"apply                       ",
         13 => *b"make_householder_in_place   ",
+        14 => *b"lahqr_schur22               ",
+        15 => *b"lasy2                       ",
         _ => [b' '; 28],
     }
 }
@@ -48,6 +51,8 @@ pub fn run(call: usize, w: &[u64]) -> Outcome {
         11 => calls::adjoint(w),
         12 => calls::apply(w),
         13 => calls::make_householder_in_place(w),
+        14 => blocks::lahqr_schur22(w),
+        15 => blocks::lasy2(w),
         _ => Outcome::Malformed,
     }
 }
