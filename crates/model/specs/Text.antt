@@ -90,16 +90,20 @@ wordsOf xs = map wordOf xs
 abbrev pub answerLine : ℕ → List ℕ
 answerLine a = line (ascii "answer=") (decimal a)
 
+-- the six lines of an accepted move: its counts, and the words of the form and of the factor. Without a factor the last is `u=` alone
+unfoldable pub accepted : ℕ → ℕ → ℕ → List ℕ → List ℕ → List ℕ
+accepted landed swaps declined t u =
+    answerLine 0
+    ++ line (ascii "landed=") (decimal landed)
+    ++ line (ascii "swaps=") (decimal swaps)
+    ++ line (ascii "declined=") (decimal declined)
+    ++ line (ascii "t=") (words t)
+    ++ line (ascii "u=") (words u)
+
 -- turned away, the `answer=` line alone
 unfoldable pub printedMove : Moved → List ℕ
 printedMove m =
-    cond (eqb (m .answer) 0)
-    (answerLine 0
-    ++ line (ascii "landed=") (decimal (m .landed))
-    ++ line (ascii "swaps=") (decimal (m .swaps))
-    ++ line (ascii "declined=") (decimal (m .declined))
-    ++ line (ascii "t=") (words (wordsOf (m .form)))
-    ++ line (ascii "u=") (words (wordsOf (m .factor))))
+    cond (eqb (m .answer) 0) (accepted (m .landed) (m .swaps) (m .declined) (wordsOf (m .form)) (wordsOf (m .factor)))
     (answerLine (m .answer))
 
 -- what a call of the move is: n, the form, the factor, from and to

@@ -1,7 +1,7 @@
 -- The digits that io writes are those of the definitions. Assumes nothing.
 use mathlib.Core.Path.{_≡_, refl, sym, ap, _∙_}
 use mathlib.Core.Bool.{Bool, true, false, cond}
-use mathlib.Core.List.{List, [], _∷_, _++_}
+use mathlib.Core.List.{List, [], _∷_, _++_, append-assoc}
 use Prim.Native.Nat.{ℕ, zero, suc, _+_, _-_, _*_, _/_, _%_, _^_, _≤_, _<_}
 use native.Mathlib.Nat.{mod-lt, mod-eq-of-lt, div-lt-iff-lt-mul, le-div-iff-mul-le, pow-le-pow-right}
 use native.Mathlib.Omega.{arith}
@@ -53,3 +53,7 @@ at-most-20 k n h f = at-most 10 1 20 k n (omega arith) (omega arith) (omega arit
 
 pub sixteen : (k n : ℕ) → n < 2 ^ 64 → Fewest 16 16 n k → k ≡ 16
 sixteen k n h f = omega (arith, at-most 16 16 16 k n (omega arith) (omega arith) (omega arith) f, f .0)
+
+-- a line after what stands before it
+pub joined : (before name says : List ℕ) → before ++ name ++ says ++ (10 ∷ []) ≡ before ++ (name ++ says ++ (10 ∷ []))
+joined before name says = simp append-assoc
