@@ -142,3 +142,110 @@ pub number-read : (s rest : List ℕ) (n p : ℕ) → n < 10 ^ 4 → drop p s �
 number-read s rest n p h e =
     digits-read s (decimal n) rest 4 0 p (decimal-digits 20 n) (decimal-length 20 3 n h) e
     ∙ ap (λ (v : ℕ). record { value = v; next = p + length (decimal n) }) (decimal-value 20 n (omega arith))
+
+-- ---- words
+
+glyph-no-newline : (d : ℕ) → glyph d ≡ 10 → ⊥
+glyph-no-newline d h = by (ltb d 10) refl
+  where
+    by : (b : Bool) → ltb d 10 ≡ b → ⊥
+    by true e = let f : 48 + d ≡ 10 = rw e at h in omega arith
+    by false e = let f : 87 + d ≡ 10 = rw e at h in omega arith
+
+hex-no-newline : (k w : ℕ) (l : List ℕ) → getD (hexIn (suc k) w ++ l) 0 0 ≡ 10 → ⊥
+unfolding hexIn
+hex-no-newline zero w l h = glyph-no-newline (w % 16) h
+hex-no-newline (suc k) w l h =
+    hex-no-newline k (w / 16) (glyph (w % 16) ∷ l) (ap (λ (m : List ℕ). getD m 0 0) (sym (append-assoc (hexIn (suc k) (w / 16)) (glyph (w % 16) ∷ []) l)) ∙ h)
+
+hex-read : (s ds l : List ℕ) (i w : ℕ) → drop i s ≡ ds ++ l → digitsFrom s (length ds) i w ≡ fold 16 digitOf w ds
+unfolding digitsFrom fold
+hex-read s [] l i w e = refl
+hex-read s (d ∷ ds) l i w e =
+    ap (λ (x : ℕ). digitsFrom s (length ds) (i + 1) (w * 16 + digitOf x)) (head-at s i (d ∷ ds ++ l) e)
+    ∙ hex-read s ds l (i + 1) (w * 16 + digitOf d) (on s i 1 (d ∷ ds ++ l) e)
+
+-- a byte that is no newline, and a word
+module _ (s l : List ℕ) (b w p : ℕ) (no : b ≡ 10 → ⊥) (e : drop p s ≡ b ∷ word w ++ l) where
+  after-byte : drop (p + 1) s ≡ word w ++ l
+  after-byte = on s p 1 (b ∷ word w ++ l) e
+
+  word-read : w < 2 ^ 64 → digitsFrom s 16 (p + 1) 0 ≡ w
+  word-read h =
+      rw (hex-length 16 w) at (hex-read s (word w) l (p + 1) 0 after-byte) ∙ hex-value 16 w h
+
+  after-word : drop (p + 17) s ≡ l
+  after-word =
+      let g : p + 17 ≡ p + 1 + 16 = omega arith in
+      rw (g, on s (p + 1) 16 (word w ++ l) after-byte) (drop-at (word w) l 16 (hex-length 16 w))
+
+  more-there : moreAt s p ≡ true
+  unfolding moreAt
+  more-there =
+      let n : length s - p ≡ suc (length (word w ++ l)) = sym (length-drop p s) ∙ ap length e in
+      let m : length (word w ++ l) ≡ 16 + length l = rw (length-append (word w) l, hex-length 16 w) in
+      let f : getD s (p + 1) 0 ≡ getD (word w ++ l) 0 0 = head-at s (p + 1) (word w ++ l) after-byte in
+      rw (le-ltb (length s) (p + 17) (omega arith), head-at s p (b ∷ word w ++ l) e, ne-eqb b 10 no, f, ne-eqb (getD (word w ++ l) 0 0) 10 (hex-no-newline 15 w l))
+
+abbrev pub Words64 : List ℕ → Type 0
+Words64 ws = (i : ℕ) → i < length ws → getD ws i 0 < 2 ^ 64
+
+others64 : (w : ℕ) (ws : List ℕ) → Words64 (w ∷ ws) → Words64 ws
+others64 w ws h i l = h (suc i) (omega arith)
+
+-- at a newline, or just before one, there are no more
+no-more : (s : List ℕ) (p : ℕ) → getD s p 0 ≡ 10 → moreAt s p ≡ false
+unfolding moreAt
+no-more s p h = by (ltb (length s) (p + 17)) refl
+  where
+    by : (b : Bool) → ltb (length s) (p + 17) ≡ b → moreAt s p ≡ false
+    by true e = rw e
+    by false e = rw (e, h)
+
+no-first : (s : List ℕ) (p b : ℕ) → (b ≡ 10 → ⊥) → getD s p 0 ≡ b → getD s (p + 1) 0 ≡ 10 → moreAt s p ≡ false
+unfolding moreAt
+no-first s p b other g h = by (ltb (length s) (p + 17)) refl
+  where
+    by : (t : Bool) → ltb (length s) (p + 17) ≡ t → moreAt s p ≡ false
+    by true e = rw e
+    by false e = rw (e, g, ne-eqb b 10 other, h)
+
+spaced-read : (s rest ws : List ℕ) (k p : ℕ) → Words64 ws → length ws ≤ k → drop p s ≡ spaced ws ++ 10 ∷ rest → wordsAt s k p ≡ ws
+unfolding spaced wordsAt
+spaced-read s rest [] zero p a h e = refl
+spaced-read s rest [] (suc k) p a h e = rw (no-more s p (head-at s p (10 ∷ rest) e))
+spaced-read s rest (w ∷ ws) zero p a h e = absurd (omega arith)
+spaced-read s rest (w ∷ ws) (suc k) p a h e =
+    let l = spaced ws ++ 10 ∷ rest in
+    let f : drop p s ≡ 32 ∷ word w ++ l = e ∙ ap (λ (m : List ℕ). 32 ∷ m) (append-assoc (word w) (spaced ws) (10 ∷ rest)) in
+    let no : _≡_ {A = ℕ} 32 10 → ⊥ = λ z. omega arith in
+    rw (more-there s l 32 w p no f, word-read s l 32 w p no f (a 0 (omega arith)), spaced-read s rest ws k (p + 17) (others64 w ws a) (omega arith) (after-word s l 32 w p no f))
+
+-- the words of a line, from the `=` before them on
+pub words-read : (s rest ws : List ℕ) (k p : ℕ) → Words64 ws → length ws ≤ k → drop p s ≡ 61 ∷ words ws ++ 10 ∷ rest → wordsAt s k p ≡ ws
+unfolding words wordsAt
+words-read s rest [] zero p a h e = refl
+words-read s rest [] (suc k) p a h e =
+    let no : _≡_ {A = ℕ} 61 10 → ⊥ = λ z. omega arith in
+    rw (no-first s p 61 no (head-at s p (61 ∷ 10 ∷ rest) e) (head-at s (p + 1) (10 ∷ rest) (on s p 1 (61 ∷ 10 ∷ rest) e)))
+words-read s rest (w ∷ ws) zero p a h e = absurd (omega arith)
+words-read s rest (w ∷ ws) (suc k) p a h e =
+    let l = spaced ws ++ 10 ∷ rest in
+    let f : drop p s ≡ 61 ∷ word w ++ l = e ∙ ap (λ (m : List ℕ). 61 ∷ m) (append-assoc (word w) (spaced ws) (10 ∷ rest)) in
+    let no : _≡_ {A = ℕ} 61 10 → ⊥ = λ z. omega arith in
+    rw (more-there s l 61 w p no f, word-read s l 61 w p no f (a 0 (omega arith)), spaced-read s rest ws k (p + 17) (others64 w ws a) (omega arith) (after-word s l 61 w p no f))
+
+-- ---- how long they are
+
+pub spaced-length : (ws : List ℕ) → length (spaced ws) ≡ 17 * length ws
+unfolding spaced
+spaced-length [] = refl
+spaced-length (w ∷ ws) = rw (length-append (word w) (spaced ws), hex-length 16 w, spaced-length ws) (omega arith)
+
+pub words-length : (w : ℕ) (ws : List ℕ) → suc (length (words (w ∷ ws))) ≡ 17 * length (w ∷ ws)
+unfolding words
+words-length w ws = rw (length-append (word w) (spaced ws), hex-length 16 w, spaced-length ws) (omega arith)
+
+pub words-many : (ws : List ℕ) → 17 * length ws ≤ suc (length (words ws))
+words-many [] = omega arith
+words-many (w ∷ ws) = omega (arith, words-length w ws)

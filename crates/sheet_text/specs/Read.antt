@@ -31,3 +31,18 @@ moreAt s p = cond (ltb (length s) (p + 17)) false (cond (eqb (getD s p 0) 10) fa
 unfoldable pub wordsAt : List ℕ → ℕ → ℕ → List ℕ
 wordsAt s zero p = []
 wordsAt s (suc k) p = cond (moreAt s p) (digitsFrom s 16 (p + 1) 0 ∷ wordsAt s k (p + 17)) []
+
+-- where the `=` before the factor's words stands, when that before the form's k words stands at place q: after the words, a newline and `u`
+unfoldable pub factorPlace : ℕ → ℕ → ℕ
+factorPlace q k = q + 17 * k + cond (eqb k 0) 3 2
+
+-- what the text is taken to say, with room for k words of the form and of the factor
+unfoldable pub requestIn : ℕ → List ℕ → Request
+requestIn k s =
+    let n = numberAt s 4 0 2 in
+    let from = numberAt s 4 0 (n .next + 6) in
+    let to = numberAt s 4 0 (from .next + 4) in
+    let form = wordsAt s k (to .next + 2) in
+    record {
+      n = n .value; from = from .value; to = to .value; form = form;
+      factor = wordsAt s k (factorPlace (to .next + 2) (length form)) }
