@@ -3,3 +3,4 @@ mod float;
 mod moves;
 mod print;
 mod read;
+pub mod sheet;

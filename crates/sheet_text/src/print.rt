@@ -89,7 +89,7 @@ fn put_words_line(out: &mut [u8], at: usize, name: &[u8], w: &[u64]) -> usize
 // The `answer=` line, alone.
 pub fn put_answer(out: &mut [u8], answer: usize) -> usize
     requires { ⌜ 30 ≤ length (now out) ⌝ }
-    ensures { λ r. ⌜ take r (now (out .exit)) ≡ Text.answerLine answer ⌝ }
+    ensures { λ r. ⌜ (r ≤ length (now (out .exit))) × (take r (now (out .exit)) ≡ Text.answerLine answer) ⌝ }
 {
     put_number_line(out, 0, b"answer=", answer)
 }
@@ -109,7 +109,7 @@ pub fn put_request(out: &mut [u8], n: usize, from: usize, to: usize, t: &[u64], 
 // What an accepted move prints: its counts, and the words of the form and of the factor.
 pub fn put_accepted(out: &mut [u8], landed: usize, swaps: usize, declined: usize, t: &[u64], u: &[u64]) -> usize
     requires { ⌜ 140 + 17 * length (now t) + 17 * length (now u) ≤ length (now out) ⌝ }
-    ensures { λ r. ⌜ take r (now (out .exit)) ≡ Text.accepted landed swaps declined (now (t .entry)) (now (u .entry)) ⌝ }
+    ensures { λ r. ⌜ (r ≤ length (now (out .exit))) × (take r (now (out .exit)) ≡ Text.accepted landed swaps declined (now (t .entry)) (now (u .entry))) ⌝ }
 {
     let a = put_number_line(out, 0, b"answer=", 0);
     let b = put_number_line(out, a, b"landed=", landed);

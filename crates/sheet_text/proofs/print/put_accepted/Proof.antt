@@ -1,5 +1,6 @@
 -- `sheet_text::print::put_accepted` meets its contract, line by line. Assumes nothing.
 use mathlib.Core.Path.{_≡_, refl, sym, ap, _∙_}
+use native.Mathlib.Omega.{arith}
 use Rattle.model.specs.Text.{accepted}
 use borrow.Author.Needs.{needs}
 use Rattle.sheet_text.proofs.print.put_accepted.Statement.{statement}
@@ -53,7 +54,8 @@ returns c =
     let at-put-number-line3 = at-put-number-line4 .before .before .before .before .before in
     let at-put-number-line2 = at-put-number-line3 .before .before .before .before .before in
     let at-put-number-line = at-put-number-line2 .before .before .before .before .before in
-    rw (at-put-words-line2 .put-words-line2 .ensures .1, at-put-words-line .put-words-line .ensures .1, at-put-number-line4 .put-number-line4 .ensures .1, at-put-number-line3 .put-number-line3 .ensures .1, at-put-number-line2 .put-number-line2 .ensures .1, at-put-number-line .put-number-line .ensures .1)
+    let at-start = at-put-number-line .before .before .before .before .before .before in
+    (omega (arith, at-put-words-line2 .put-words-line2 .ensures .0, at-put-words-line2 .put-words-line2 .kept .0, at-put-words-line .put-words-line .ensures .0, at-put-words-line .put-words-line .kept .0, at-put-number-line4 .put-number-line4 .ensures .0, at-put-number-line4 .put-number-line4 .kept .0, at-put-number-line3 .put-number-line3 .ensures .0, at-put-number-line3 .put-number-line3 .kept .0, at-put-number-line2 .put-number-line2 .ensures .0, at-put-number-line2 .put-number-line2 .kept .0, at-put-number-line .put-number-line .ensures .0, at-put-number-line .put-number-line .kept .0, at-start .pre), rw (at-put-words-line2 .put-words-line2 .ensures .1, at-put-words-line .put-words-line .ensures .1, at-put-number-line4 .put-number-line4 .ensures .1, at-put-number-line3 .put-number-line3 .ensures .1, at-put-number-line2 .put-number-line2 .ensures .1, at-put-number-line .put-number-line .ensures .1))
 
 pub put-accepted-spec : {M : Type 1} → statement M
 put-accepted-spec =
