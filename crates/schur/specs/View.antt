@@ -4,6 +4,10 @@ use lib.ListN.{getD}
 use lib.Ieee.{Float, nan}
 use Rattle.model.specs.Columns as Columns
 use Rattle.model.specs.Swaps as Swaps
+use Rattle.model.specs.Exchange as Exchange
+use Rattle.model.specs.Move as Move
+use Rattle.schur.specs.declared.reorder.Moved.{Moved}
+use Rattle.schur.specs.declared.swap.Exchanged.{Exchanged}
 use Rattle.schur.specs.declared.kernels.Triple.{Triple}
 use Rattle.schur.specs.declared.kernels.Quad.{Quad}
 use Rattle.schur.specs.declared.kernels.Reflectors3.{Reflectors3}
@@ -27,3 +31,10 @@ column c = record { x0 = getD c 0 nan; x1 = getD c 1 nan; x2 = getD c 2 nan; x3 
 
 abbrev pub window : List (List Float) → Swaps.Window
 window w = record { c0 = column (getD w 0 []); c1 = column (getD w 1 []); c2 = column (getD w 2 []); c3 = column (getD w 3 []) }
+
+-- the answers of a move and an exchange, with what form and factor then hold
+abbrev pub moved : Moved → List Float → List Float → Move.Moved
+moved r t u = record { answer = r .answer; landed = r .landed; swaps = r .swaps; declined = r .declined; form = t; factor = u }
+
+abbrev pub exchanged : Exchanged → List Float → List Float → Exchange.Exchanged
+exchanged r t u = record { answer = r .answer; swaps = r .swaps; declined = r .declined; form = t; factor = u }

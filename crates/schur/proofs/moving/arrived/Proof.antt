@@ -1,0 +1,12 @@
+-- `schur::moving::arrived` meets its contract. Assumes nothing.
+use Rattle.schur.proofs.Ways.{arrives}
+use mathlib.Core.Path.{refl, sym, _∙_}
+use native.Mathlib.Omega.{arith}
+use Rattle.schur.proofs.moving.arrived.Statement.{statement}
+use Rattle.schur.proofs.moving.arrived.Tie as tie
+
+returns : tie.Need-returns
+returns c = (λ n u₀ t u M s. arrives _ s, (refl, refl, refl, refl))
+
+pub arrived-spec : {M : Type 1} → statement M
+arrived-spec = tie.close (tie.spec returns)

@@ -1,0 +1,48 @@
+-- `schur::moving::up_whole` meets its contract. Assumes nothing.
+use Rattle.schur.specs.Stands.{rows}
+use Rattle.schur.proofs.Ways.{stands-as, up-whole-is}
+use mathlib.Core.Path.{refl, sym, ap, _∙_}
+use native.Mathlib.Omega.{arith}
+use borrow.Author.Needs.{needs}
+use Rattle.schur.proofs.moving.up_whole.Statement.{statement}
+use Rattle.schur.proofs.moving.up_whole.Tie as tie
+
+size-above-requires : tie.Need-size-above-requires
+size-above-requires c κs = search needs
+
+sub-exchanging : tie.Need-sub-exchanging
+sub-exchanging c = search needs
+
+exchanging-requires : tie.Need-exchanging-requires
+exchanging-requires c κs = search needs
+
+sub-landed-whole : tie.Need-sub-landed-whole
+sub-landed-whole c = search needs
+
+landed-whole-requires : tie.Need-landed-whole-requires
+landed-whole-requires c κs = search needs
+
+same-length : tie.Need-same-length
+same-length c = search needs
+
+same-length-2 : tie.Need-same-length-2
+same-length-2 c = search needs
+
+returns : tie.Need-returns
+returns c =
+    let c1 = c .before .before .before .before .before .before in
+    let c2 = c1 .before .before .before in
+    let x = c1 .exchanging .ensures in let y = c .landed-whole .ensures in let g = y .1 .1 in let i = y .1 .0 in let j = x .1 in let z = c2 .size-above .ensures in (λ u₀ M s. stands-as (up-whole-is _ M _ _ _ (s .here) (s .nbf) (s .step .done .form) _ (z .0)) (y .0 u₀ _ _ (x .0 u₀ M s)), (omega arith, record { one = g .one; three = g .three; same = g .same ∙ ap rows (x .1 .1); few = let f = g .few in omega arith; fewer = let f = g .fewer in omega arith }))
+
+pub up-whole-spec : {M : Type 1} → statement M
+up-whole-spec =
+    tie.close
+    (tie.spec
+    size-above-requires
+    sub-exchanging
+    exchanging-requires
+    sub-landed-whole
+    landed-whole-requires
+    same-length
+    same-length-2
+    returns)

@@ -1,0 +1,114 @@
+// The move of a block (reorder_schur).
+ghost use mathlib.Core.Path.{_≡_};
+ghost use mathlib.Core.Bool.{cond};
+ghost use Prim.Native.Nat.{ℕ, _+_, _-_, _*_, _≤_, _<_};
+ghost use mathlib.Core.List.{List};
+ghost use lib.Ieee.{Float, binary64};
+ghost use Rattle.model.specs.Move as Move;
+ghost use Rattle.schur.specs.Run.{Sized, Beside};
+ghost use Rattle.schur.specs.Stands.{Stands, Way, rows};
+ghost use Rattle.schur.specs.View.{moved};
+use crate::blocks::first_row;
+use crate::blocks::size_at;
+use crate::lines::move_line;
+use crate::moving::Moving;
+use crate::moving::down_step;
+use crate::moving::up_step;
+
+// Down until the goal is reached.
+fn move_down(t: &mut [f64], u: &mut [f64], n: usize, goal: usize, m: Moving) -> Moving
+    requires { ⌜ Sized n (now t) × Beside n (now u) × Way (m .nbf) (m .swaps) (m .declined) × (goal + rows (m .nbf) ≤ n) × (m .swaps ≤ 12 * m .here) × (m .declined ≤ 12 * m .here) ⌝ }
+    ensures { λ r. ⌜ ((u₀ : List Float) (M : Move.Moving) → Stands n u₀ (now (t .entry)) (now (u .entry)) (m .here) (m .nbf) (m .swaps) (m .declined) M → Stands n u₀ (now (t .exit)) (now (u .exit)) (r .here) (r .nbf) (r .swaps) (r .declined) (Move.downBy n binary64 n n goal M)) ⌝ }
+{
+    let mut on = m;
+    while on.here < goal {
+        on = down_step(&mut *t, &mut *u, n, on);
+    }
+    on
+}
+
+// Up until the goal is reached.
+fn move_up(t: &mut [f64], u: &mut [f64], n: usize, goal: usize, m: Moving) -> Moving
+    requires { ⌜ Sized n (now t) × Beside n (now u) × Way (m .nbf) (m .swaps) (m .declined) × (m .here + rows (m .nbf) ≤ n) × (m .swaps + 12 * m .here ≤ 12 * n) × (m .declined + 12 * m .here ≤ 12 * n) ⌝ }
+    ensures { λ r. ⌜ ((u₀ : List Float) (M : Move.Moving) → Stands n u₀ (now (t .entry)) (now (u .entry)) (m .here) (m .nbf) (m .swaps) (m .declined) M → Stands n u₀ (now (t .exit)) (now (u .exit)) (r .here) (r .nbf) (r .swaps) (r .declined) (Move.upBy n binary64 n n goal M)) ⌝ }
+{
+    let mut on = m;
+    while goal < on.here {
+        on = up_step(&mut *t, &mut *u, n, on);
+    }
+    on
+}
+
+// Going down, a 2-block's goal is a row less against a single row, and a single row's a row more
+// against a 2-block.
+fn goal_down(nbf: usize, nbl: usize, to: usize) -> usize
+    requires { ⌜ (1 ≤ to) × (to ≤ 64) × (nbf ≤ 2) × (nbl ≤ 2) × (1 ≤ nbf) × (1 ≤ nbl) ⌝ }
+    ensures { λ r. ⌜ (r ≡ Move.goalDown nbf nbl to) × (r + nbf ≤ to + nbl) ⌝ }
+{
+    if nbf == 2 {
+        if nbl == 1 {
+            return to - 1;
+        }
+        return to;
+    }
+    if nbl == 2 {
+        return to + 1;
+    }
+    to
+}
+
+// The block in row `from` to row `to`, both first rows of blocks.
+fn move_from(t: &mut [f64], u: &mut [f64], n: usize, from: usize, to: usize) -> Moving
+    requires { ⌜ Sized n (now t) × Beside n (now u) × (from < n) × (to < n) ⌝ }
+    ensures { λ r. ⌜ Stands n (now (u .entry)) (now (t .exit)) (now (u .exit)) (r .here) (r .nbf) (r .swaps) (r .declined) (Move.moveFrom binary64 n n from to (now (t .entry))) ⌝ }
+{
+    let nbf = size_at(&*t, n, from);
+    let start = Moving {
+        here: from,
+        nbf,
+        swaps: 0,
+        declined: 0,
+    };
+    if from == to {
+        return start;
+    }
+    if from < to {
+        let nbl = size_at(&*t, n, to);
+        let goal = goal_down(nbf, nbl, to);
+        return move_down(&mut *t, &mut *u, n, goal, start);
+    }
+    move_up(&mut *t, &mut *u, n, to, start)
+}
+
+// The answer of a move: 0 with the row it landed on and the counts, or the number of the line that
+// turned it away and zeros.
+pub struct Moved {
+    pub answer: usize,
+    pub landed: usize,
+    pub swaps: usize,
+    pub declined: usize,
+}
+
+// The move of the block in row `from` to row `to`.
+pub fn reorder_schur(n: usize, t: &mut [f64], u: &mut [f64], from: usize, to: usize) -> Moved
+    ensures { λ r. ⌜ moved r (now (t .exit)) (now (u .exit)) ≡ Move.moveCall binary64 n n (now (t .entry)) (now (u .entry)) from to ⌝ }
+{
+    let line = move_line(n, &*t, &*u, from, to);
+    if line != 0 {
+        return Moved {
+            answer: line,
+            landed: 0,
+            swaps: 0,
+            declined: 0,
+        };
+    }
+    let a = first_row(&*t, n, from);
+    let b = first_row(&*t, n, to);
+    let m = move_from(&mut *t, &mut *u, n, a, b);
+    Moved {
+        answer: 0,
+        landed: m.here,
+        swaps: m.swaps,
+        declined: m.declined,
+    }
+}
