@@ -106,25 +106,13 @@ printedMove m =
     cond (eqb (m .answer) 0) (accepted (m .landed) (m .swaps) (m .declined) (wordsOf (m .form)) (wordsOf (m .factor)))
     (answerLine (m .answer))
 
--- what a call of the move is: n, the form, the factor, from and to
-abbrev pub Mover : Type 0
-Mover = ℕ → List Float → List Float → ℕ → ℕ → Moved
-
 -- 2 for n 0 or above 32, then what the move gives, with the counts of words as lengths
-unfoldable pub printedBy : Mover → Request → List ℕ
-printedBy move r =
+unfoldable pub printed : Request → List ℕ
+printed r =
     cond (eqb (r .n) 0 || ltb 32 (r .n)) (answerLine 2)
-    (printedMove (move (r .n) (numbers (r .form)) (numbers (r .factor)) (r .from) (r .to)))
+    (printedMove (moveCall binary64 (r .n) (r .n) (numbers (r .form)) (numbers (r .factor)) (r .from) (r .to)))
 
--- a request's sheet, or the answer 1 to any other text
-pub data SheetBy (move : Mover) (input : List ℕ) (output : List ℕ) : Type 0 where
-  laidOut : (r : Request) → InBounds r → input ≡ textOf r → output ≡ printedBy move r → SheetBy move input output
-  notLaidOut : ((r : Request) → InBounds r → input ≡ textOf r → ⊥) → output ≡ answerLine 1 → SheetBy move input output
-
--- the move itself
-abbrev pub theMove : Mover
-theMove n t u from to = moveCall binary64 n n t u from to
-
--- what the program prints for what it reads
-abbrev pub Sheet : List ℕ → List ℕ → Type 0
-Sheet input output = SheetBy theMove input output
+-- What the program prints for what it reads: the sheet of the request whose text it is, and the answer 1 where it is the text of none.
+pub data Sheet (input : List ℕ) (output : List ℕ) : Type 0 where
+  laidOut : (r : Request) → InBounds r → input ≡ textOf r → output ≡ printed r → Sheet input output
+  notLaidOut : ((r : Request) → InBounds r → input ≡ textOf r → ⊥) → output ≡ answerLine 1 → Sheet input output

@@ -39,15 +39,15 @@ module _ (r : Request) where
   unfolding textOf
   nested =
       regroup (line (ascii "n=") (decimal (r .n))) (line (ascii "from=") (decimal (r .from))) (line (ascii "to=") (decimal (r .to)))
-        (line (ascii "t=") (words (r .form))) (line (ascii "u=") (words (r .factor)))
+      (line (ascii "t=") (words (r .form))) (line (ascii "u=") (words (r .factor)))
       ∙ line-then (ascii "n=") (decimal (r .n)) _
       ∙ ap (λ (m : List ℕ). ascii "n=" ++ (decimal (r .n) ++ 10 ∷ m))
-          (line-then (ascii "from=") (decimal (r .from)) _
-          ∙ ap (λ (m : List ℕ). ascii "from=" ++ (decimal (r .from) ++ 10 ∷ m))
-              (line-then (ascii "to=") (decimal (r .to)) _
-              ∙ ap (λ (m : List ℕ). ascii "to=" ++ (decimal (r .to) ++ 10 ∷ m))
-                  (line-then (ascii "t=") (words (r .form)) _
-                  ∙ ap (λ (m : List ℕ). ascii "t=" ++ (words (r .form) ++ 10 ∷ m)) (append-assoc (ascii "u=") (words (r .factor)) (10 ∷ [])))))
+      (line-then (ascii "from=") (decimal (r .from)) _
+      ∙ ap (λ (m : List ℕ). ascii "from=" ++ (decimal (r .from) ++ 10 ∷ m))
+      (line-then (ascii "to=") (decimal (r .to)) _
+      ∙ ap (λ (m : List ℕ). ascii "to=" ++ (decimal (r .to) ++ 10 ∷ m))
+      (line-then (ascii "t=") (words (r .form)) _
+      ∙ ap (λ (m : List ℕ). ascii "t=" ++ (words (r .form) ++ 10 ∷ m)) (append-assoc (ascii "u=") (words (r .factor)) (10 ∷ [])))))
 
 -- the places of the three numbers and of the two rows of words
 module _ (s : List ℕ) (r : Request) (b : InBounds r) (e : s ≡ textOf r) where
@@ -108,5 +108,10 @@ back k s r h b e =
     let at-q = at-to s r b e p (at-from s r b e) in
     let at-t = at-form s r b e q at-q in
     let m = many r b in
-    rw (n-read s r b e, from-read s r b e p (at-from s r b e), to-read s r b e q at-q, form-read s r b e k t (omega arith) at-t,
-        factor-read s r b e k (factorPlace t (length (r .form))) (omega arith) (at-factor s (r .form) (from-factor r) t at-t))
+    rw (
+      n-read s r b e,
+      from-read s r b e p (at-from s r b e),
+      to-read s r b e q at-q,
+      form-read s r b e k t (omega arith) at-t,
+      factor-read s r b e k (factorPlace t (length (r .form))) (omega arith) (at-factor s (r .form) (from-factor r) t at-t),
+    )

@@ -9,7 +9,7 @@ use lib.Dec.{ltb, leb}
 use lib.ListN.{length, getD, take}
 use lib.Seq.{length-take-le}
 use borrow.Author.Tests.{ltb-false, leb-true}
-use Rattle.model.specs.Text.{Request, textOf, InBounds, Mover, printedBy, SheetBy, laidOut, notLaidOut, answerLine}
+use Rattle.model.specs.Text.{Request, textOf, InBounds, printed, Sheet, laidOut, notLaidOut, answerLine}
 use Rattle.sheet_text.specs.declared.read.Taken.{Taken}
 use Rattle.sheet_text.specs.Read.{numberAt, digitOf, digitsFrom, moreAt, wordsAt, factorPlace, requestIn}
 use Rattle.sheet_text.proofs.Back.{back}
@@ -23,12 +23,15 @@ digit-small b = first (ltb b 48) refl
     fourth : (t : Bool) → leb b 102 ≡ t → cond t (b - 87) 0 ≤ 15
     fourth true e = let l = leb-true b 102 e in omega arith
     fourth false e = omega arith
+
     third : (t : Bool) → ltb b 97 ≡ t → cond t 0 (cond (leb b 102) (b - 87) 0) ≤ 15
     third true e = omega arith
     third false e = fourth (leb b 102) refl
+
     second : (t : Bool) → leb b 57 ≡ t → cond t (b - 48) (cond (ltb b 97) 0 (cond (leb b 102) (b - 87) 0)) ≤ 15
     second true e = let l = leb-true b 57 e in omega arith
     second false e = third (ltb b 97) refl
+
     first : (t : Bool) → ltb b 48 ≡ t → cond t 0 (cond (leb b 57) (b - 48) (cond (ltb b 97) 0 (cond (leb b 102) (b - 87) 0))) ≤ 15
     first true e = omega arith
     first false e = second (leb b 57) refl
@@ -70,20 +73,23 @@ parts s t u a b c k l p ea eb ec h et ep eu = rw (← ea, ← eb, ← ec, ← et
 
 -- ---- the three cases
 
-pub too-long : (move : Mover) (s out : List ℕ) → 40000 < length s → out ≡ answerLine 1 → SheetBy move s out
-too-long move s out h o = notLaidOut (λ r b e. omega (arith, b .bytes, ap length e)) o
+pub too-long : (s out : List ℕ) → 40000 < length s → out ≡ answerLine 1 → Sheet s out
+too-long s out h o = notLaidOut (λ r b e. omega (arith, b .bytes, ap length e)) o
 
-module _ (move : Mover) (s out : List ℕ) (q : Request) (is : q ≡ requestIn 2353 s) where
-  pub other-text : (s ≡ textOf q → ⊥) → out ≡ answerLine 1 → SheetBy move s out
+module _ (s out : List ℕ) (q : Request) (is : q ≡ requestIn 2353 s) where
+  pub other-text : (s ≡ textOf q → ⊥) → out ≡ answerLine 1 → Sheet s out
   other-text f o = notLaidOut (λ r b e. f (e ∙ ap textOf (sym (is ∙ back 2353 s r (omega arith) b e)))) o
 
-  pub its-text : length s ≤ 40000 → q .n < 10000 → q .from < 10000 → q .to < 10000 → s ≡ textOf q → out ≡ printedBy move q → SheetBy move s out
+  pub its-text : length s ≤ 40000 → q .n < 10000 → q .from < 10000 → q .to < 10000 → s ≡ textOf q → out ≡ printed q → Sheet s out
   unfolding requestIn
   its-text h n from to e o =
       laidOut q
       (record {
-        n = n; from = from; to = to;
+        n = n;
+        from = from;
+        to = to;
         form = small-as (q .form) s 2353 _ (ap (λ (x : Request). x .form) is);
         factor = small-as (q .factor) s 2353 _ (ap (λ (x : Request). x .factor) is);
-        bytes = rw e at h })
+        bytes = rw e at h;
+      })
       e o

@@ -44,5 +44,9 @@ requestIn k s =
     let to = numberAt s 4 0 (from .next + 4) in
     let form = wordsAt s k (to .next + 2) in
     record {
-      n = n .value; from = from .value; to = to .value; form = form;
-      factor = wordsAt s k (factorPlace (to .next + 2) (length form)) }
+      n = n .value;
+      from = from .value;
+      to = to .value;
+      form = form;
+      factor = wordsAt s k (factorPlace (to .next + 2) (length form));
+    }

@@ -107,7 +107,14 @@ pub fn put_request(out: &mut [u8], n: usize, from: usize, to: usize, t: &[u64], 
 }
 
 // What an accepted move prints: its counts, and the words of the form and of the factor.
-pub fn put_accepted(out: &mut [u8], landed: usize, swaps: usize, declined: usize, t: &[u64], u: &[u64]) -> usize
+pub fn put_accepted(
+    out: &mut [u8],
+    landed: usize,
+    swaps: usize,
+    declined: usize,
+    t: &[u64],
+    u: &[u64],
+) -> usize
     requires { ⌜ 140 + 17 * length (now t) + 17 * length (now u) ≤ length (now out) ⌝ }
     ensures { λ r. ⌜ (r ≤ length (now (out .exit))) × (take r (now (out .exit)) ≡ Text.accepted landed swaps declined (now (t .entry)) (now (u .entry))) ⌝ }
 {

@@ -21,19 +21,31 @@ pub fn number(s: &[u8], at: usize) -> Taken
     while i < 4 {
         let p = at + i;
         if s.len() <= p {
-            return Taken { value: value, next: p };
+            return Taken {
+                value: value,
+                next: p,
+            };
         }
         let b = s[p];
         if b < 48 {
-            return Taken { value: value, next: p };
+            return Taken {
+                value: value,
+                next: p,
+            };
         }
         if b > 57 {
-            return Taken { value: value, next: p };
+            return Taken {
+                value: value,
+                next: p,
+            };
         }
         value = value * 10 + (b - 48) as usize;
         i += 1;
     }
-    Taken { value: value, next: at + i }
+    Taken {
+        value: value,
+        next: at + i,
+    }
 }
 
 // The value of a lowercase hexadecimal digit, and 0 of any other byte.

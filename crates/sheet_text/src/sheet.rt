@@ -6,15 +6,16 @@ ghost use Prim.Native.Nat.{_≤_, _<_, _+_, _*_};
 ghost use lib.ListN.{length, take};
 ghost use Rattle.model.specs.Text as Text;
 ghost use Rattle.sheet_text.specs.Read as Read;
-ghost use Rattle.sheet_text.specs.Stub.{stubMove};
+ghost use lib.Ieee.{binary64};
+ghost use Rattle.model.specs.Move.{moveCall};
 use crate::float::numbers_of;
 use crate::float::words_of;
-use crate::moves::reorder_schur;
 use crate::print::put_accepted;
 use crate::print::put_answer;
 use crate::print::put_request;
 use crate::read::number;
 use crate::read::words;
+use schur::reorder::reorder_schur;
 
 // Room for the words of a text: 40,000 bytes hold at most 2352.
 fn word_room() -> [u64; 2353]
@@ -52,7 +53,7 @@ struct Said {
 fn read_request(t: &mut [u64], u: &mut [u64], s: &[u8]) -> Said
     requires { ⌜ (length (now t) ≡ 2353) × (length (now u) ≡ 2353) ⌝ }
     ensures { λ r. ⌜ (r .form ≤ length (now (t .exit))) × (r .factor ≤ length (now (u .exit))) × (r .n < 10000) × (r .from < 10000) × (r .to < 10000)
-      × ((record { n = r .n; from = r .from; to = r .to; form = take (r .form) (now (t .exit)); factor = take (r .factor) (now (u .exit)) }) ≡ Read.requestIn 2353 (now (s .entry))) ⌝ }
+        × ((record { n = r .n; from = r .from; to = r .to; form = take (r .form) (now (t .exit)); factor = take (r .factor) (now (u .exit)) }) ≡ Read.requestIn 2353 (now (s .entry))) ⌝ }
 {
     let n = number(s, 2);
     let from = number(s, n.next + 6);
@@ -70,17 +71,33 @@ fn read_request(t: &mut [u64], u: &mut [u64], s: &[u8]) -> Said
 }
 
 // Whether the text is that of the request.
-fn is_text_of(out: &mut [u8], s: &[u8], n: usize, from: usize, to: usize, t: &[u64], u: &[u64]) -> bool
+fn is_text_of(
+    out: &mut [u8],
+    s: &[u8],
+    n: usize,
+    from: usize,
+    to: usize,
+    t: &[u64],
+    u: &[u64],
+) -> bool
     requires { ⌜ 110 + 17 * length (now t) + 17 * length (now u) ≤ length (now out) ⌝ }
     ensures { λ r. ⌜ (r ≡ true → now (s .entry) ≡ Text.textOf (record { n = n; from = from; to = to; form = now (t .entry); factor = now (u .entry) }))
-      × (now (s .entry) ≡ Text.textOf (record { n = n; from = from; to = to; form = now (t .entry); factor = now (u .entry) }) → r ≡ true) ⌝ }
+        × (now (s .entry) ≡ Text.textOf (record { n = n; from = from; to = to; form = now (t .entry); factor = now (u .entry) }) → r ≡ true) ⌝ }
 {
     let k = put_request(out, n, from, to, t, u);
     check::same(s, &out[..k])
 }
 
 // Prints what the move gave.
-fn print_moved(out: &mut [u8], answer: usize, landed: usize, swaps: usize, declined: usize, x: &[f64], y: &[f64]) -> usize
+fn print_moved(
+    out: &mut [u8],
+    answer: usize,
+    landed: usize,
+    swaps: usize,
+    declined: usize,
+    x: &[f64],
+    y: &[f64],
+) -> usize
     requires { ⌜ (81000 ≤ length (now out)) × (length (now x) ≤ 2353) × (length (now y) ≤ 2353) ⌝ }
     ensures { λ r. ⌜ (r ≤ length (now (out .exit))) × (take r (now (out .exit)) ≡ Text.printedMove (record { answer = answer; landed = landed; swaps = swaps; declined = declined; form = now (x .entry); factor = now (y .entry) })) ⌝ }
 {
@@ -97,9 +114,16 @@ fn print_moved(out: &mut [u8], answer: usize, landed: usize, swaps: usize, decli
 }
 
 // Makes the move and prints what it gave.
-fn move_and_print(out: &mut [u8], x: &mut [f64], y: &mut [f64], n: usize, from: usize, to: usize) -> usize
+fn move_and_print(
+    out: &mut [u8],
+    x: &mut [f64],
+    y: &mut [f64],
+    n: usize,
+    from: usize,
+    to: usize,
+) -> usize
     requires { ⌜ (81000 ≤ length (now out)) × (length (now x) ≤ 2353) × (length (now y) ≤ 2353) ⌝ }
-    ensures { λ r. ⌜ (r ≤ length (now (out .exit))) × (take r (now (out .exit)) ≡ Text.printedMove (stubMove n (now (x .entry)) (now (y .entry)) from to)) ⌝ }
+    ensures { λ r. ⌜ (r ≤ length (now (out .exit))) × (take r (now (out .exit)) ≡ Text.printedMove (moveCall binary64 n n (now (x .entry)) (now (y .entry)) from to)) ⌝ }
 {
     let m = reorder_schur(n, x, y, from, to);
     print_moved(out, m.answer, m.landed, m.swaps, m.declined, x, y)
@@ -108,7 +132,7 @@ fn move_and_print(out: &mut [u8], x: &mut [f64], y: &mut [f64], n: usize, from: 
 // The sheet of a request.
 fn run(out: &mut [u8], n: usize, from: usize, to: usize, t: &[u64], u: &[u64]) -> usize
     requires { ⌜ (81000 ≤ length (now out)) × (length (now t) ≤ 2353) × (length (now u) ≤ 2353) ⌝ }
-    ensures { λ r. ⌜ (r ≤ length (now (out .exit))) × (take r (now (out .exit)) ≡ Text.printedBy stubMove (record { n = n; from = from; to = to; form = now (t .entry); factor = now (u .entry) })) ⌝ }
+    ensures { λ r. ⌜ (r ≤ length (now (out .exit))) × (take r (now (out .exit)) ≡ Text.printed (record { n = n; from = from; to = to; form = now (t .entry); factor = now (u .entry) })) ⌝ }
 {
     if n == 0 {
         return put_answer(out, 2);
@@ -128,7 +152,7 @@ fn run(out: &mut [u8], n: usize, from: usize, to: usize, t: &[u64], u: &[u64]) -
 // The sheet of a text, at the start of `out`: answers how many bytes it has.
 pub fn sheet(out: &mut [u8], input: &[u8]) -> usize
     requires { ⌜ 81000 ≤ length (now out) ⌝ }
-    ensures { λ r. ⌜ (r ≤ length (now (out .exit))) × Text.SheetBy stubMove (now (input .entry)) (take r (now (out .exit))) ⌝ }
+    ensures { λ r. ⌜ (r ≤ length (now (out .exit))) × Text.Sheet (now (input .entry)) (take r (now (out .exit))) ⌝ }
 {
     if input.len() > 40000 {
         return put_answer(out, 1);

@@ -47,7 +47,7 @@ loop-less : tie.Need-loop-less Inv-loop μ-loop
 loop-less c = search needs
 
 loop-again : tie.Need-loop-again Inv-loop μ-loop
-loop-again c = 
+loop-again c =
     let l = c .before .before in
     (search needs, simp length-set (l .loop .inv .1), next (l .loop .out) (l .before .args .text .now) (l .before .args .at) (l .loop .i) (search needs) (search needs) ∙ l .loop .inv .2)
 

@@ -16,7 +16,7 @@ slice-aggregate-put : tie.Need-slice-aggregate-put
 slice-aggregate-put c = search needs
 
 put-requires : tie.Need-put-requires
-put-requires c κs = 
+put-requires c κs =
     let k = c .before .before in
     let d = k .decimal in
     omega (arith, d .ensures .0 .1, at-most-20 (d .result) _ (k .before .before .before .fits .n .fits) (d .ensures .1 .0))
@@ -25,13 +25,14 @@ same-length : tie.Need-same-length
 same-length c = search needs
 
 returns : tie.Need-returns
-returns c = 
+returns c =
     let p = c .before .before in
     let k = p .before .before .before in
     let d = k .decimal in
-    let m = at-most-20 (d .result) _ (k .before .before .before .fits .n .fits) (d .ensures .1 .0) in
-    (omega (arith, p .put .ensures .0, d .ensures .0 .1),
-     rw (p .put .ensures .1, d .ensures .1 .1, fewest 20 _ _ (d .ensures .1 .0) m))
+    let m = at-most-20 (d .result) _ (k .before .before .before .fits .n .fits) (d .ensures .1 .0) in (
+      omega (arith, p .put .ensures .0, d .ensures .0 .1),
+      rw (p .put .ensures .1, d .ensures .1 .1, fewest 20 _ _ (d .ensures .1 .0) m),
+    )
 
 pub put-decimal-spec : {M : Type 1} → statement M
 put-decimal-spec =

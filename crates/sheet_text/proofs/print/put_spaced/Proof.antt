@@ -54,12 +54,15 @@ loop-less : tie.Need-loop-less Inv-loop μ-loop
 loop-less c = search needs
 
 loop-again : tie.Need-loop-again Inv-loop μ-loop
-loop-again c = 
+loop-again c =
     let k = c .before .before in
     let l = k .before .before .before .before in
-    let a = l .before .before .before in
-    (search needs, k .put-word .kept .0 ∙ simp length-set (l .loop .inv .1), omega (arith, k .put-word .ensures .0),
-     next (l .loop .out) (k .put-word .last .0) (a .args .w .now) (l .loop .p) (l .loop .i) (k .put-word .result) (search needs) (search needs) (k .put-word .ensures .1) ∙ l .loop .inv .3)
+    let a = l .before .before .before in (
+      search needs,
+      k .put-word .kept .0 ∙ simp length-set (l .loop .inv .1),
+      omega (arith, k .put-word .ensures .0),
+      next (l .loop .out) (k .put-word .last .0) (a .args .w .now) (l .loop .p) (l .loop .i) (k .put-word .result) (search needs) (search needs) (k .put-word .ensures .1) ∙ l .loop .inv .3,
+    )
 
 same-length : tie.Need-same-length Inv-loop μ-loop
 same-length c = c .before .loop .inv .1

@@ -17,7 +17,7 @@ slice-aggregate-put : tie.Need-slice-aggregate-put
 slice-aggregate-put c = search needs
 
 put-requires : tie.Need-put-requires
-put-requires c κs = 
+put-requires c κs =
     let k = c .before .before in
     let d = k .hex in
     omega (arith, d .ensures .0 .1, sixteen (d .result) _ (k .before .before .before .fits .w .fits) (d .ensures .1 .0))
@@ -27,7 +27,7 @@ same-length c = search needs
 
 returns : tie.Need-returns
 unfolding hexIn
-returns c = 
+returns c =
     let p = c .before .before in
     let k = p .before .before .before in
     let d = k .hex in

@@ -5,7 +5,7 @@ use Prim.Native.Nat.{_≤_}
 use lib.ListN.{length}
 use lib.Seq.{length-take-le}
 use borrow.Author.Tests.{eq-eqb, ne-eqb, lt-ltb, le-ltb}
-use Rattle.model.specs.Text.{printedBy}
+use Rattle.model.specs.Text.{printed}
 use borrow.Author.Needs.{needs}
 use Rattle.sheet_text.proofs.sheet.run.Statement.{statement}
 use Rattle.sheet_text.proofs.sheet.run.Tie as tie
@@ -17,7 +17,7 @@ same-length : tie.Need-same-length
 same-length c = search needs
 
 returns : tie.Need-returns
-unfolding printedBy
+unfolding printed
 returns c =
     let at-put-answer = c .before .before in
     let at-if1 = at-put-answer .before .before in
@@ -30,7 +30,7 @@ same-length-2 : tie.Need-same-length-2
 same-length-2 c = search needs
 
 returns-2 : tie.Need-returns-2
-unfolding printedBy
+unfolding printed
 returns-2 c =
     let at-put-answer2 = c .before .before in
     let at-if2 = at-put-answer2 .before .before in
@@ -90,7 +90,7 @@ same-length-3 : tie.Need-same-length-3
 same-length-3 c = search needs
 
 returns-3 : tie.Need-returns-3
-unfolding printedBy
+unfolding printed
 returns-3 c =
     let at-move-and-print = c .before .before .before .before in
     let at-numbers-of2 = at-move-and-print .before .before .before .before .before in

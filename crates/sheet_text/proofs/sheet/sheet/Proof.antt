@@ -4,7 +4,6 @@ use mathlib.Core.Bool.{true≢false}
 use native.Mathlib.Omega.{arith}
 use lib.Seq.{length-take-le}
 use borrow.Author.Tests.{not-true, not-false}
-use Rattle.sheet_text.specs.Stub.{stubMove}
 use Rattle.sheet_text.proofs.Whole.{too-long, other-text, its-text}
 use borrow.Author.Needs.{needs}
 use Rattle.sheet_text.proofs.sheet.sheet.Statement.{statement}
@@ -20,7 +19,7 @@ returns : tie.Need-returns
 returns c =
     let at-put-answer = c .before .before in
     let at-if1 = at-put-answer .before .before in
-    (at-put-answer .put-answer .ensures .0, too-long stubMove _ _ (at-if1 .if1 .taken) (at-put-answer .put-answer .ensures .1))
+    (at-put-answer .put-answer .ensures .0, too-long _ _ (at-if1 .if1 .taken) (at-put-answer .put-answer .ensures .1))
 
 word-room-requires : tie.Need-word-room-requires
 word-room-requires c κs = search needs
@@ -73,7 +72,7 @@ returns-2 c =
     let at-if2 = at-put-answer2 .before .before in
     let at-is-text-of = at-if2 .before .before .before in
     let at-read-request = at-is-text-of .before .before .before .before .before .before in
-    (at-put-answer2 .put-answer2 .ensures .0, other-text stubMove _ _ _ (at-read-request .read-request .ensures .5) (λ h. true≢false (sym (at-is-text-of .is-text-of .ensures .1 h) ∙ not-true _ (at-if2 .if2 .taken))) (at-put-answer2 .put-answer2 .ensures .1))
+    (at-put-answer2 .put-answer2 .ensures .0, other-text _ _ _ (at-read-request .read-request .ensures .5) (λ h. true≢false (sym (at-is-text-of .is-text-of .ensures .1 h) ∙ not-true _ (at-if2 .if2 .taken))) (at-put-answer2 .put-answer2 .ensures .1))
 
 array-share-prefix-t-2 : tie.Need-array-share-prefix-t-2
 array-share-prefix-t-2 c = search needs
@@ -110,7 +109,7 @@ returns-3 c =
     let at-is-text-of = at-if2 .before .before .before in
     let at-read-request = at-is-text-of .before .before .before .before .before .before in
     let at-if1 = at-read-request .before .before .before .before .before in
-    (at-run .run .ensures .0, its-text stubMove _ _ _ (at-read-request .read-request .ensures .5) (at-if1 .if1 .left) (at-read-request .read-request .ensures .2) (at-read-request .read-request .ensures .3) (at-read-request .read-request .ensures .4) (at-is-text-of .is-text-of .ensures .0 (not-false _ (at-if2 .if2 .left))) (at-run .run .ensures .1))
+    (at-run .run .ensures .0, its-text _ _ _ (at-read-request .read-request .ensures .5) (at-if1 .if1 .left) (at-read-request .read-request .ensures .2) (at-read-request .read-request .ensures .3) (at-read-request .read-request .ensures .4) (at-is-text-of .is-text-of .ensures .0 (not-false _ (at-if2 .if2 .left))) (at-run .run .ensures .1))
 
 pub sheet-spec : {M : Type 1} → statement M
 sheet-spec =
