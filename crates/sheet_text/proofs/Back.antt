@@ -32,7 +32,7 @@ module _ (r : Request) where
   abbrev from-from : List ℕ
   from-from = decimal (r .from) ++ 10 ∷ (ascii "to=" ++ from-to)
 
-  abbrev from-n : List ℕ
+  abbrev pub from-n : List ℕ
   from-n = decimal (r .n) ++ 10 ∷ (ascii "from=" ++ from-from)
 
   pub nested : textOf r ≡ ascii "n=" ++ from-n

@@ -3,3 +3,4 @@ pub mod Reading
 pub mod Back
 pub mod Nan
 pub mod Whole
+pub mod Laws

@@ -113,7 +113,7 @@ decimal-digits (suc k) n = by (decimal-digits k (n / 10)) (ltb n 10) refl
         let m : n % 10 < 10 = mod-lt n (omega arith) in
         rw e (digits-snoc (decimalIn k (n / 10)) (48 + n % 10) shorter (omega arith) (omega arith))
 
-decimal-length : (k j n : ℕ) → n < 10 ^ suc j → length (decimalIn k n) ≤ suc j
+pub decimal-length : (k j n : ℕ) → n < 10 ^ suc j → length (decimalIn k n) ≤ suc j
 unfolding decimalIn
 decimal-length zero j n h = omega arith
 decimal-length (suc k) j n h = by (λ i. decimal-length k i (n / 10)) (ltb n 10) refl j h
