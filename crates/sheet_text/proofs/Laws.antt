@@ -76,8 +76,15 @@ pub round-trip : RoundTrip
 round-trip n from to xs ys a b c f g h k =
     let r = sentBack n from to xs ys in
     let i : InBounds r = record {
-        n = a; from = b; to = c; form = words-64 xs f; factor = words-64 ys g;
-        bytes = bytes r a b c (printed-few xs h) (printed-few ys k) } in
-    (i, λ q j e.
-      let s : q ≡ r = one-request q r j i e in
-      (ap (λ (x : Request). numbers (x .form)) s ∙ numbers-back xs f, ap (λ (x : Request). numbers (x .factor)) s ∙ numbers-back ys g))
+      n = a;
+      from = b;
+      to = c;
+      form = words-64 xs f;
+      factor = words-64 ys g;
+      bytes = bytes r a b c (printed-few xs h) (printed-few ys k);
+    } in (
+      i,
+      λ q j e.
+          let s : q ≡ r = one-request q r j i e in
+          (ap (λ (x : Request). numbers (x .form)) s ∙ numbers-back xs f, ap (λ (x : Request). numbers (x .factor)) s ∙ numbers-back ys g),
+    )

@@ -70,6 +70,23 @@ fn read_request(t: &mut [u64], u: &mut [u64], s: &[u8]) -> Said
     }
 }
 
+// Whether two texts are the same bytes.
+fn same(a: &[u8], b: &[u8]) -> bool
+    ensures { λ r. ⌜ (r ≡ true → now (a .entry) ≡ now (b .entry)) × (now (a .entry) ≡ now (b .entry) → r ≡ true) ⌝ }
+{
+    if a.len() != b.len() {
+        return false;
+    }
+    let mut i = 0;
+    while i < a.len() {
+        if a[i] != b[i] {
+            return false;
+        }
+        i += 1;
+    }
+    true
+}
+
 // Whether the text is that of the request.
 fn is_text_of(
     out: &mut [u8],
@@ -85,7 +102,7 @@ fn is_text_of(
         × (now (s .entry) ≡ Text.textOf (record { n = n; from = from; to = to; form = now (t .entry); factor = now (u .entry) }) → r ≡ true) ⌝ }
 {
     let k = put_request(out, n, from, to, t, u);
-    check::same(s, &out[..k])
+    same(s, &out[..k])
 }
 
 // Prints what the move gave.
