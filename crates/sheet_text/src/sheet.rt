@@ -1,0 +1,186 @@
+// A sheet whole. The text is read leniently, what was read is printed as a text again, and only
+// where that is the text that came is the text laid out as document 01 asks.
+ghost use mathlib.Core.Path.{_≡_};
+ghost use mathlib.Core.Bool.{true};
+ghost use Prim.Native.Nat.{_≤_, _<_, _+_, _*_};
+ghost use lib.ListN.{length, take};
+ghost use Rattle.model.specs.Text as Text;
+ghost use Rattle.sheet_text.specs.Read as Read;
+ghost use lib.Ieee.{binary64};
+ghost use Rattle.model.specs.Move.{moveCall};
+use crate::float::numbers_of;
+use crate::float::words_of;
+use crate::print::put_accepted;
+use crate::print::put_answer;
+use crate::print::put_request;
+use crate::read::number;
+use crate::read::words;
+use schur::reorder::reorder_schur;
+
+// Room for the words of a text: 40,000 bytes hold at most 2352.
+fn word_room() -> [u64; 2353]
+    ensures { λ r. ⌜ 2353 ≡ length r ⌝ }
+{
+    [0; 2353]
+}
+
+fn number_room() -> [f64; 2353]
+    ensures { λ r. ⌜ 2353 ≡ length r ⌝ }
+{
+    [0.0; 2353]
+}
+
+// Where the `=` before the factor's words stands, k words after the one at place q.
+fn factor_place(q: usize, k: usize) -> usize
+    requires { ⌜ (q ≤ 1000) × (k ≤ 10000) ⌝ }
+    ensures { λ r. ⌜ (r ≡ Read.factorPlace q k) × (r ≤ 200000) ⌝ }
+{
+    if k == 0 {
+        return q + 17 * k + 3;
+    }
+    q + 17 * k + 2
+}
+
+// What a text is taken to say: three numbers, and how many words the form and the factor have.
+struct Said {
+    n: usize,
+    from: usize,
+    to: usize,
+    form: usize,
+    factor: usize,
+}
+
+fn read_request(t: &mut [u64], u: &mut [u64], s: &[u8]) -> Said
+    requires { ⌜ (length (now t) ≡ 2353) × (length (now u) ≡ 2353) ⌝ }
+    ensures { λ r. ⌜ (r .form ≤ length (now (t .exit))) × (r .factor ≤ length (now (u .exit))) × (r .n < 10000) × (r .from < 10000) × (r .to < 10000)
+        × ((record { n = r .n; from = r .from; to = r .to; form = take (r .form) (now (t .exit)); factor = take (r .factor) (now (u .exit)) }) ≡ Read.requestIn 2353 (now (s .entry))) ⌝ }
+{
+    let n = number(s, 2);
+    let from = number(s, n.next + 6);
+    let to = number(s, from.next + 4);
+    let q = to.next + 2;
+    let form = words(t, s, q);
+    let factor = words(u, s, factor_place(q, form));
+    Said {
+        n: n.value,
+        from: from.value,
+        to: to.value,
+        form: form,
+        factor: factor,
+    }
+}
+
+// Whether two texts are the same bytes.
+fn same(a: &[u8], b: &[u8]) -> bool
+    ensures { λ r. ⌜ (r ≡ true → now (a .entry) ≡ now (b .entry)) × (now (a .entry) ≡ now (b .entry) → r ≡ true) ⌝ }
+{
+    if a.len() != b.len() {
+        return false;
+    }
+    let mut i = 0;
+    while i < a.len() {
+        if a[i] != b[i] {
+            return false;
+        }
+        i += 1;
+    }
+    true
+}
+
+// Whether the text is that of the request.
+fn is_text_of(
+    out: &mut [u8],
+    s: &[u8],
+    n: usize,
+    from: usize,
+    to: usize,
+    t: &[u64],
+    u: &[u64],
+) -> bool
+    requires { ⌜ 110 + 17 * length (now t) + 17 * length (now u) ≤ length (now out) ⌝ }
+    ensures { λ r. ⌜ (r ≡ true → now (s .entry) ≡ Text.textOf (record { n = n; from = from; to = to; form = now (t .entry); factor = now (u .entry) }))
+        × (now (s .entry) ≡ Text.textOf (record { n = n; from = from; to = to; form = now (t .entry); factor = now (u .entry) }) → r ≡ true) ⌝ }
+{
+    let k = put_request(out, n, from, to, t, u);
+    same(s, &out[..k])
+}
+
+// Prints what the move gave.
+fn print_moved(
+    out: &mut [u8],
+    answer: usize,
+    landed: usize,
+    swaps: usize,
+    declined: usize,
+    x: &[f64],
+    y: &[f64],
+) -> usize
+    requires { ⌜ (81000 ≤ length (now out)) × (length (now x) ≤ 2353) × (length (now y) ≤ 2353) ⌝ }
+    ensures { λ r. ⌜ (r ≤ length (now (out .exit))) × (take r (now (out .exit)) ≡ Text.printedMove (record { answer = answer; landed = landed; swaps = swaps; declined = declined; form = now (x .entry); factor = now (y .entry) })) ⌝ }
+{
+    if answer != 0 {
+        return put_answer(out, answer);
+    }
+    let mut t = word_room();
+    let mut u = word_room();
+    words_of(&mut t, x);
+    words_of(&mut u, y);
+    let k = x.len();
+    let l = y.len();
+    put_accepted(out, landed, swaps, declined, &t[..k], &u[..l])
+}
+
+// Makes the move and prints what it gave.
+fn move_and_print(
+    out: &mut [u8],
+    x: &mut [f64],
+    y: &mut [f64],
+    n: usize,
+    from: usize,
+    to: usize,
+) -> usize
+    requires { ⌜ (81000 ≤ length (now out)) × (length (now x) ≤ 2353) × (length (now y) ≤ 2353) ⌝ }
+    ensures { λ r. ⌜ (r ≤ length (now (out .exit))) × (take r (now (out .exit)) ≡ Text.printedMove (moveCall binary64 n n (now (x .entry)) (now (y .entry)) from to)) ⌝ }
+{
+    let m = reorder_schur(n, x, y, from, to);
+    print_moved(out, m.answer, m.landed, m.swaps, m.declined, x, y)
+}
+
+// The sheet of a request.
+fn run(out: &mut [u8], n: usize, from: usize, to: usize, t: &[u64], u: &[u64]) -> usize
+    requires { ⌜ (81000 ≤ length (now out)) × (length (now t) ≤ 2353) × (length (now u) ≤ 2353) ⌝ }
+    ensures { λ r. ⌜ (r ≤ length (now (out .exit))) × (take r (now (out .exit)) ≡ Text.printed (record { n = n; from = from; to = to; form = now (t .entry); factor = now (u .entry) })) ⌝ }
+{
+    if n == 0 {
+        return put_answer(out, 2);
+    }
+    if n > 32 {
+        return put_answer(out, 2);
+    }
+    let mut x = number_room();
+    let mut y = number_room();
+    numbers_of(&mut x, t);
+    numbers_of(&mut y, u);
+    let k = t.len();
+    let l = u.len();
+    move_and_print(out, &mut x[..k], &mut y[..l], n, from, to)
+}
+
+// The sheet of a text, at the start of `out`: answers how many bytes it has.
+pub fn sheet(out: &mut [u8], input: &[u8]) -> usize
+    requires { ⌜ 81000 ≤ length (now out) ⌝ }
+    ensures { λ r. ⌜ (r ≤ length (now (out .exit))) × Text.Sheet (now (input .entry)) (take r (now (out .exit))) ⌝ }
+{
+    if input.len() > 40000 {
+        return put_answer(out, 1);
+    }
+    let mut t = word_room();
+    let mut u = word_room();
+    let said = read_request(&mut t, &mut u, input);
+    let k = said.form;
+    let l = said.factor;
+    if !is_text_of(out, input, said.n, said.from, said.to, &t[..k], &u[..l]) {
+        return put_answer(out, 1);
+    }
+    run(out, said.n, said.from, said.to, &t[..k], &u[..l])
+}
