@@ -1,7 +1,7 @@
 -- The modulus by the tests that the code makes on the two magnitudes a and b, over the format. Assumes nothing.
 use mathlib.Core.Path.{_≡_, refl, sym}
 use mathlib.Core.Bool.{Bool, true, false, cond, true≢false}
-use lib.Ieee.{Float, nan, inf, fin, Format, lt, eq, isNan}
+use lib.Ieee.{Float, nan, inf, fin, Format, add, sub, neg, lt, eq, isNan, ofBits}
 use Rattle.model.specs.Arith.{abs, isInf, modulus, hypot}
 
 infinite : (x a : Float) → a ≡ abs x → eq a (inf false) ≡ true → isInf x ≡ true
@@ -58,3 +58,26 @@ module _ (f : Format) (p q a b : Float) (ea : a ≡ abs p) (eb : b ≡ abs q) wh
         pub hypot-ordered : isNan b ≡ false → {s : Bool} → lt a b ≡ s → hypot f p q ≡ cond s (modulus f b a) (modulus f a b)
         unfolding hypot
         hypot-ordered h g = rw (not-infinite p a ea ha, not-infinite q b eb hb, ← nan-abs p a ea, na, ← nan-abs q b eb, h, ← ea, ← eb, g)
+
+-- ---- two finite numbers: a number less itself is zero only if it is finite
+finite : (f : Format) (x : Float) → eq (sub f x x) (ofBits f 0) ≡ true → (isInf x ≡ false) × (isNan x ≡ false)
+unfolding sub add neg eq isInf isNan
+finite f nan h = absurd (true≢false (sym h))
+finite f (inf true) h = absurd (true≢false (sym h))
+finite f (inf false) h = absurd (true≢false (sym h))
+finite f (fin s m d) h = (refl, refl)
+
+ordered : (f : Format) (s : Bool) (a b : Float) → cond s (modulus f b a) (modulus f a b) ≡ modulus f (cond s b a) (cond s a b)
+ordered f true a b = refl
+ordered f false a b = refl
+
+pub hypot-finite :
+    (f : Format) (p q : Float) →
+    eq (sub f p p) (ofBits f 0) ≡ true →
+    eq (sub f q q) (ofBits f 0) ≡ true →
+    hypot f p q ≡ modulus f (cond (lt (abs p) (abs q)) (abs q) (abs p)) (cond (lt (abs p) (abs q)) (abs p) (abs q))
+unfolding hypot
+hypot-finite f p q hp hq =
+    let x = finite f p hp in
+    let y = finite f q hq in
+    rw (x .0, y .0, x .1, y .1) (ordered f (lt (abs p) (abs q)) (abs p) (abs q))

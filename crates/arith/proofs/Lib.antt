@@ -1,2 +1,3 @@
 pub mod Compare
 pub mod Hypot
+pub mod RootBits

@@ -1,7 +1,7 @@
 -- What the inner functions of `sqrt` hand to one another. Assumes nothing.
 use mathlib.Core.Path.{_≡_}
 use Prim.Native.Nat.{ℕ, _*_, _/_, _^_, _≤_, _<_}
-use lib.Ieee.{binary64}
+use lib.Ieee.{Float, binary64, ofBits, add, sub, mul}
 use Rattle.laws.specs.RootNearest.{inSquares}
 
 -- s places up, the leading digit of t is at 2 ^ 52
@@ -23,3 +23,14 @@ pub record Even (digits power d : ℕ) : Type 0 where
   pub is : digits * 2 ^ power ≡ d * (2 ^ (power / 2) * 2 ^ (power / 2))
   pub low : 2 ^ 52 ≤ d
   pub high : d < 2 ^ 54
+
+-- a number near the root of x, from y near the root's inverse and k that keeps the root's leading digits
+abbrev pub nearRoot : Float → Float → Float → Float
+nearRoot x y k =
+    let t = mul binary64 x y in
+    let h = mul binary64 (ofBits binary64 0x3fe0_0000_0000_0000) y in
+    let step = sub binary64 (ofBits binary64 0x3ff8_0000_0000_0000) (mul binary64 t h) in
+    let s = mul binary64 t step in
+    let half = mul binary64 h step in
+    let high = sub binary64 (add binary64 s k) k in
+    add binary64 high (mul binary64 (sub binary64 x (mul binary64 high high)) (add binary64 half (mul binary64 (sub binary64 s high) (mul binary64 half half))))

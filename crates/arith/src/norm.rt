@@ -1,6 +1,7 @@
 // The modulus of a pair and the norm of a list.
 ghost use mathlib.Core.Path.{_≡_};
-ghost use lib.Ieee.{binary64};
+ghost use mathlib.Core.Bool.{true, cond};
+ghost use lib.Ieee.{binary64, sub, eq, lt, ofBits};
 ghost use Rattle.model.specs.Arith as Arith;
 
 // Of two finite magnitudes, the larger g and the smaller h.
@@ -14,8 +15,34 @@ fn modulus(g: f64, h: f64) -> f64
     g * crate::sqrt::sqrt(1.0 + t * t)
 }
 
-// The modulus: infinity if either is infinite, else NaN if either is.
-pub fn hypot(p: f64, q: f64) -> f64
+// The larger of two magnitudes, the first at a tie.
+fn larger(a: f64, b: f64) -> f64
+    ensures { λ r. ⌜ r ≡ cond (lt a b) b a ⌝ }
+{
+    if a < b { b } else { a }
+}
+
+// The smaller, the second at a tie.
+fn smaller(a: f64, b: f64) -> f64
+    ensures { λ r. ⌜ r ≡ cond (lt a b) a b ⌝ }
+{
+    if a < b { a } else { b }
+}
+
+// The modulus of two finite numbers, with no branch on their signs or sizes.
+fn finite_modulus(p: f64, q: f64) -> f64
+    requires { ⌜ (eq (sub binary64 p p) (ofBits binary64 0) ≡ true) × (eq (sub binary64 q q) (ofBits binary64 0) ≡ true) ⌝ }
+    ensures { λ r. ⌜ r ≡ Arith.hypot binary64 p q ⌝ }
+{
+    let a = crate::real::abs(p);
+    let b = crate::real::abs(q);
+    let g = larger(a, b);
+    let h = smaller(a, b);
+    modulus(g, h)
+}
+
+// The modulus by all of its tests.
+fn tested_modulus(p: f64, q: f64) -> f64
     ensures { λ r. ⌜ r ≡ Arith.hypot binary64 p q ⌝ }
 {
     let a = crate::real::abs(p);
@@ -33,6 +60,19 @@ pub fn hypot(p: f64, q: f64) -> f64
         return b;
     }
     if a < b { modulus(b, a) } else { modulus(a, b) }
+}
+
+// The modulus: infinity if either is infinite, else NaN if either is. A number less itself is zero
+// only if it is finite.
+pub fn hypot(p: f64, q: f64) -> f64
+    ensures { λ r. ⌜ r ≡ Arith.hypot binary64 p q ⌝ }
+{
+    if p - p == 0.0 {
+        if q - q == 0.0 {
+            return finite_modulus(p, q);
+        }
+    }
+    tested_modulus(p, q)
 }
 
 // The magnitude of the first number, then the modulus of that with each next; of nothing, +0.

@@ -1,6 +1,7 @@
 // Rotations: rotg's real branch, the adjoint, and a rotation of one pair of numbers.
 ghost use mathlib.Core.Path.{_≡_};
-ghost use lib.Ieee.{binary64};
+ghost use mathlib.Core.Bool.{false};
+ghost use lib.Ieee.{binary64, ne};
 ghost use Rattle.model.specs.Arith as Arith;
 ghost use Rattle.model.specs.Jacobi as Jacobi;
 ghost use Rattle.linalg.specs.View.{rotation, rotationWith, pair};
@@ -30,18 +31,30 @@ pub struct Pair {
     pub y: f64,
 }
 
+// The larger magnitude. q is no NaN, so one comparison does.
+fn rotg_magnitude(p: f64, q: f64) -> f64
+    requires { ⌜ ne q q ≡ false ⌝ }
+    ensures { λ r. ⌜ r ≡ Arith.fmax (Arith.abs p) (Arith.abs q) ⌝ }
+{
+    let a = abs(p);
+    let b = abs(q);
+    if a > b { a } else { b }
+}
+
 // The larger magnitude, kept within MIN_POSITIVE and its reciprocal.
 fn rotg_scale(p: f64, q: f64) -> f64
+    requires { ⌜ ne q q ≡ false ⌝ }
     ensures { λ r. ⌜ r ≡ Jacobi.rotgScale binary64 p q ⌝ }
 {
     fmin(
-        fmax(fmax(abs(p), abs(q)), MIN_POSITIVE),
+        fmax(rotg_magnitude(p, q), MIN_POSITIVE),
         recip(MIN_POSITIVE),
     )
 }
 
 // The root of p * p + q * q, worked at that scale.
 fn rotg_norm(p: f64, q: f64) -> f64
+    requires { ⌜ ne q q ≡ false ⌝ }
     ensures { λ r. ⌜ r ≡ Jacobi.rotgNorm binary64 p q ⌝ }
 {
     let scl = rotg_scale(p, q);
@@ -57,6 +70,7 @@ fn rotg_larger(p: f64, q: f64) -> f64
 
 // That root with the sign of the larger number.
 fn rotg_signed(p: f64, q: f64) -> f64
+    requires { ⌜ ne q q ≡ false ⌝ }
     ensures { λ r. ⌜ r ≡ Jacobi.rotgSigned binary64 p q ⌝ }
 {
     let r = rotg_norm(p, q);
@@ -74,6 +88,11 @@ pub fn rotg(p: f64, q: f64) -> RotationWith
     if p == 0.0 {
         let rot = JacobiRotation { c: 0.0, s: -1.0 };
         return RotationWith { rot, r: q };
+    }
+    if q != q {
+        let nan = 0.0 / 0.0;
+        let rot = JacobiRotation { c: nan, s: nan };
+        return RotationWith { rot, r: nan };
     }
     let r = rotg_signed(p, q);
     let rot = JacobiRotation {

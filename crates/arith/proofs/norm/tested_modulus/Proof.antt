@@ -1,11 +1,11 @@
--- `arith::norm::hypot` meets its contract, test by test. Assumes nothing.
+-- `arith::norm::tested_modulus` meets its contract, test by test. Assumes nothing.
 use borrow.Author.Needs.{needs}
 use mathlib.Core.Path.{sym, _∙_}
 use lib.Ieee.{binary64, div, ofBits}
 use Rattle.arith.proofs.Compare.{is-nan, is-number}
 use Rattle.arith.proofs.Hypot.{hypot-first, hypot-second, hypot-nan-first, hypot-nan-second, hypot-ordered}
-use Rattle.arith.proofs.norm.hypot.Statement.{statement}
-use Rattle.arith.proofs.norm.hypot.Tie as tie
+use Rattle.arith.proofs.norm.tested_modulus.Statement.{statement}
+use Rattle.arith.proofs.norm.tested_modulus.Tie as tie
 
 abs-requires : tie.Need-abs-requires
 abs-requires c κs = search needs
@@ -75,5 +75,5 @@ returns-6 c =
     (hypot-ordered binary64 _ _ _ _ (m .before .abs .ensures) (m .abs2 .ensures) (i .if1 .left) (j .if2 .left) (is-number _ (k .if3 .left)) (is-number _ (l .if4 .left))
     (t .if5 .left))
 
-pub hypot-spec : {M : Type 1} → statement M
-hypot-spec = tie.close (tie.spec abs-requires abs-requires-2 returns returns-2 returns-3 returns-4 modulus-requires modulus-requires-2 returns-5 returns-6)
+pub tested-modulus-spec : {M : Type 1} → statement M
+tested-modulus-spec = tie.close (tie.spec abs-requires abs-requires-2 returns returns-2 returns-3 returns-4 modulus-requires modulus-requires-2 returns-5 returns-6)
