@@ -1,3 +1,1 @@
-pub mod Compare
 pub mod Hypot
-pub mod RootBits

@@ -12,7 +12,7 @@ fn modulus(g: f64, h: f64) -> f64
         return 0.0;
     }
     let t = h / g;
-    g * crate::sqrt::sqrt(1.0 + t * t)
+    g * root::sqrt::sqrt(1.0 + t * t)
 }
 
 // The larger of two magnitudes, the first at a tie.

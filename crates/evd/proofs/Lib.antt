@@ -1,7 +1,3 @@
-pub mod Places
-pub mod Left
-pub mod Sums
-pub mod Blocks
 pub mod Lines
 pub mod Part
 pub mod Ups

@@ -7,7 +7,7 @@ use native.Mathlib.Omega.{arith}
 use lib.Ieee.{Float, Format}
 use Rattle.model.specs.Form.{nonzeroBelow}
 use Rattle.model.specs.Values.{Parts, oneValue, twoValues, valuesFrom}
-use Rattle.evd.proofs.Left.{left-two, left-one, left-none}
+use Rattle.solve.proofs.Left.{left-two, left-one, left-none}
 
 module _ (f : Format) (ld : ℕ) (t : List Float) (n j : ℕ) (s : Parts) where
   abbrev from : ℕ → Parts → Parts

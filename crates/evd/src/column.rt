@@ -1,7 +1,7 @@
 // A column of the vectors, as a part of them.
 ghost use mathlib.Core.Path.{_≡_};
 ghost use Rattle.model.specs.Vectors.{columnOf};
-use crate::block::top;
+use solve::block::top;
 
 // Column `col` of the n by n vectors v, n numbers, or a part of length 0 where a line applies.
 pub fn column(n: usize, v: &[f64], col: usize) -> &[f64]

@@ -1,8 +1,4 @@
-// Block values, vectors and a column of them. The dots and the solvers serve inside.
-mod block;
+// Block values, vectors and a column of them.
 pub mod column;
-mod dots;
-mod solve_cplx;
-mod solve_real;
 pub mod values;
 pub mod vectors;

@@ -6,11 +6,11 @@ ghost use lib.Dec.{eqb};
 ghost use lib.ListN.{length};
 ghost use lib.Ieee.{binary64};
 ghost use Rattle.model.specs.Values as Values;
-ghost use Rattle.evd.specs.Sizes.{Whole};
-use crate::block::imag_size;
-use crate::block::with_further;
+ghost use Rattle.solve.specs.Sizes.{Whole};
 use form::form_line;
 use form::place;
+use solve::block::imag_size;
+use solve::block::with_further;
 
 // A 1-block in row j: its diagonal number and +0.
 fn one_value(ld: usize, n: usize, t: &[f64], j: usize, re: &mut [f64], im: &mut [f64])

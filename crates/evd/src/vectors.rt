@@ -7,17 +7,17 @@ ghost use lib.ListN.{length};
 ghost use lib.Ieee.{binary64};
 ghost use Rattle.model.specs.Values.{furtherLine, sizeAt};
 ghost use Rattle.model.specs.Vectors as Vectors;
-ghost use Rattle.evd.specs.Sizes.{Square, Whole};
+ghost use Rattle.solve.specs.Sizes.{Square, Whole};
 ghost use Rattle.evd.specs.View.{start};
-use crate::block::imag_size;
-use crate::block::top;
-use crate::block::with_further;
-use crate::solve_cplx::solve_cplx_shifted_upper_quasi_triangular_system;
-use crate::solve_real::solve_real_shifted_upper_quasi_triangular_system;
 use arith::real::abs;
 use arith::real::abs1;
 use form::form_line;
 use form::place;
+use solve::block::imag_size;
+use solve::block::top;
+use solve::block::with_further;
+use solve::solve_cplx::solve_cplx_shifted_upper_quasi_triangular_system;
+use solve::solve_real::solve_real_shifted_upper_quasi_triangular_system;
 
 // norm plus the magnitudes of `count` numbers from place p on.
 fn add_magnitudes(t: &[f64], p: usize, count: usize, norm: f64) -> f64

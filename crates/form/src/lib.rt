@@ -1,4 +1,5 @@
-// The lines of document 01's list that speak of a form alone, in one scan.
+// What speaks of a form: the lines of document 01's list that a form by itself meets, in one scan; the
+// places of its numbers, its blocks, and the lines of a move and an exchange.
 ghost use mathlib.Core.Path.{_≡_};
 ghost use mathlib.Core.Bool.{_||_, _&&_, cond};
 ghost use Prim.Native.Nat.{ℕ, _+_, _-_, _*_, _<_, _≤_};
@@ -6,6 +7,10 @@ ghost use lib.ListN.{length};
 ghost use lib.Ieee.{binary64, ne, ofBits};
 ghost use Rattle.model.specs.Form as Form;
 ghost use Rattle.model.specs.Form.{at, some};
+
+pub mod blocks;
+pub mod lines;
+pub mod places;
 
 // Where row i, column j stands in a form of n columns, ld places apart.
 pub fn place(ld: usize, n: usize, i: usize, j: usize) -> usize

@@ -11,7 +11,7 @@ use arith::real::abs2;
 use arith::real::fmax;
 use arith::real::fmin;
 use arith::real::recip;
-use arith::sqrt::sqrt;
+use root::sqrt::sqrt;
 
 // The rotation of cosine c and sine s.
 pub struct JacobiRotation {

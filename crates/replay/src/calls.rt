@@ -74,7 +74,7 @@ pub fn sqrt(w: &[u64]) -> Outcome
     if w.len() != 2 {
         return Outcome::Malformed;
     }
-    judge(is_word(arith::sqrt::sqrt(float_of(w[0])), w[1]))
+    judge(is_word(root::sqrt::sqrt(float_of(w[0])), w[1]))
 }
 
 // x p; r.

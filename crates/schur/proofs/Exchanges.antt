@@ -12,9 +12,9 @@ use borrow.Author.Tests.{eqb-true}
 use Rattle.model.specs.Form.{zeroBelow}
 use Rattle.model.specs.Swaps.{Change, unchanged, andThen, swapOf, standardise}
 use Rattle.model.specs.Exchange.{standardiseIf, exchangeWhole, exchangeBy, exchange}
-use Rattle.schur.specs.Run.{Rows}
-use Rattle.schur.specs.Done.{Done, Step}
-use Rattle.schur.proofs.Steps.{done-then, step-then}
+use Rattle.form.specs.Run.{Rows}
+use Rattle.swaps.specs.Done.{Done, Step}
+use Rattle.swaps.proofs.Steps.{done-then, step-then}
 
 -- ---- standardising counts nothing
 no-swaps : (f : Format) (ld n size j : ℕ) (t : List Float) → standardiseIf f ld n size j t .swaps ≡ 0

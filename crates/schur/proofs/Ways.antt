@@ -12,9 +12,9 @@ use Rattle.model.specs.Columns.{onFactor}
 use Rattle.model.specs.Swaps.{Change, unchanged}
 use Rattle.model.specs.Exchange.{Exchanged, exchanged, exchange}
 use Rattle.model.specs.Move as Move
-use Rattle.schur.specs.Done.{Step}
+use Rattle.swaps.specs.Done.{Step}
 use Rattle.schur.specs.Stands.{Stands, rows}
-use Rattle.schur.proofs.Steps.{step-then}
+use Rattle.swaps.proofs.Steps.{step-then}
 
 pub one-more : (n j n1 n2 : ℕ) {u₀ t u t₁ u₁ : List Float} {h b s d s₁ d₁ : ℕ} {M : Move.Moving}
     → Stands n u₀ t u h b s d M → Step n u t₁ u₁ s₁ d₁ (exchange binary64 n n j n1 n2 t) → length u₁ ≡ length u

@@ -1,6 +1,2 @@
 pub mod View
-pub mod Run
-pub mod Done
-pub mod Forms
 pub mod Stands
-pub mod Lines

@@ -7,7 +7,7 @@ use lib.Dec.{eqb}
 use lib.ListN.{length}
 use lib.Ieee.{Float}
 use Rattle.model.specs.Move as Move
-use Rattle.schur.specs.Done.{Step}
+use Rattle.swaps.specs.Done.{Step}
 
 -- the numbers of the code's Moving are those of m, and with u₀ for the factor at the start, form and factor are now t and u
 pub record Stands (n : ℕ) (u₀ t u : List Float) (here₁ nbf₁ swaps₁ declined₁ : ℕ) (m : Move.Moving) : Type 0 where

@@ -7,14 +7,14 @@ ghost use lib.Ieee.{binary64};
 ghost use Rattle.model.specs.Form as Form;
 ghost use Rattle.model.specs.Swaps as Swaps;
 ghost use Rattle.model.specs.Exchange as Exchange;
-ghost use Rattle.schur.specs.Run.{Sized, Beside, Rows};
-ghost use Rattle.schur.specs.Done.{Done, Step};
-use crate::places::get;
-use crate::standardise::standardise;
-use crate::swap_11::schur_swap_11;
-use crate::swap_12::schur_swap_12;
-use crate::swap_12::schur_swap_21;
-use crate::swap_22::schur_swap_22;
+ghost use Rattle.form.specs.Run.{Sized, Beside, Rows};
+ghost use Rattle.swaps.specs.Done.{Done, Step};
+use form::places::get;
+use swaps::standardise::standardise;
+use swaps::swap_11::schur_swap_11;
+use swaps::swap_12::schur_swap_12;
+use swaps::swap_12::schur_swap_21;
+use swaps::swap_22::schur_swap_22;
 
 // How many runs of the four swap routines there were, and how many of them declined.
 pub struct Counts {

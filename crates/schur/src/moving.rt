@@ -4,12 +4,12 @@ ghost use Prim.Native.Nat.{ℕ, _+_, _-_, _≤_, _<_};
 ghost use mathlib.Core.List.{List};
 ghost use lib.Ieee.{Float, binary64};
 ghost use Rattle.model.specs.Move as Move;
-ghost use Rattle.schur.specs.Run.{Sized, Beside, Rows};
+ghost use Rattle.form.specs.Run.{Sized, Beside, Rows};
 ghost use Rattle.schur.specs.Stands.{Stands, Way, Went, rows};
-use crate::blocks::size_above;
-use crate::blocks::size_at;
-use crate::blocks::zero_below;
 use crate::exchange::exchange;
+use form::blocks::size_above;
+use form::blocks::size_at;
+use form::blocks::zero_below;
 
 // The moved block's row, nbf (1 for one row, 2 for a 2-block, 3 for a 2-block that has split and
 // goes on as two rows), and the counts so far.

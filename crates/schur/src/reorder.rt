@@ -5,15 +5,15 @@ ghost use Prim.Native.Nat.{ℕ, _+_, _-_, _*_, _≤_, _<_};
 ghost use mathlib.Core.List.{List};
 ghost use lib.Ieee.{Float, binary64};
 ghost use Rattle.model.specs.Move as Move;
-ghost use Rattle.schur.specs.Run.{Sized, Beside};
+ghost use Rattle.form.specs.Run.{Sized, Beside};
 ghost use Rattle.schur.specs.Stands.{Stands, Way, rows};
 ghost use Rattle.schur.specs.View.{moved};
-use crate::blocks::first_row;
-use crate::blocks::size_at;
-use crate::lines::move_line;
 use crate::moving::Moving;
 use crate::moving::down_step;
 use crate::moving::up_step;
+use form::blocks::first_row;
+use form::blocks::size_at;
+use form::lines::move_line;
 
 // Down until the goal is reached.
 fn move_down(t: &mut [f64], u: &mut [f64], n: usize, goal: usize, m: Moving) -> Moving

@@ -4,7 +4,7 @@ ghost use lib.Ieee.{binary64};
 ghost use Rattle.model.specs.Exchange as Exchange;
 ghost use Rattle.schur.specs.View.{exchanged};
 use crate::exchange::exchange;
-use crate::lines::exchange_line;
+use form::lines::exchange_line;
 
 // The answer of an exchange: 0 with the counts, or the number of the line that turned it away and
 // zeros.

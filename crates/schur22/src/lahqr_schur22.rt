@@ -11,7 +11,7 @@ use arith::real::fmax;
 use arith::real::fmin;
 use arith::real::mul_pow2;
 use arith::real::recip;
-use arith::sqrt::sqrt;
+use root::sqrt::sqrt;
 
 // A real pair, or a complex pair: both diagonal numbers and the imaginary size.
 pub enum Eigenvalues {

@@ -10,11 +10,11 @@ use lib.Ieee.{Float, nan, binary64, fits, isNan, ofBits, toBits}
 use lib.Ieee.Bits.{ofBits-toBits, toBits-lt}
 use Rattle.model.specs.Ascii.{ascii}
 use Rattle.model.specs.Text.{Request, textOf, InBounds, words, wordOf, wordsOf, numbers, Sheet, laidOut, notLaidOut, printed, decimal}
-use Rattle.sheet_text.specs.Read.{requestIn}
+use Rattle.sheet_words.specs.Read.{requestIn}
 use Rattle.sheet_text.specs.Laws.{OneRequest, Settled, AllFit, sentBack, RoundTrip}
-use Rattle.sheet_text.proofs.Nan.{nan-is}
-use Rattle.sheet_text.proofs.Reading.{Words64, words-length, decimal-length}
-use Rattle.sheet_text.proofs.Back.{back, nested, from-n}
+use Rattle.sheet_words.proofs.Nan.{nan-is}
+use Rattle.sheet_words.proofs.Reading.{Words64, words-length, decimal-length}
+use Rattle.sheet_words.proofs.Back.{back, nested, from-n}
 
 pub one-request : OneRequest
 one-request q r a b e = sym (back 2353 (textOf q) q (omega arith) a refl) ∙ back 2353 (textOf q) r (omega arith) b e

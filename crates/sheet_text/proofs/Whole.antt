@@ -10,9 +10,9 @@ use lib.ListN.{length, getD, take}
 use lib.Seq.{length-take-le}
 use borrow.Author.Tests.{ltb-false, leb-true}
 use Rattle.model.specs.Text.{Request, textOf, InBounds, printed, Sheet, laidOut, notLaidOut, answerLine}
-use Rattle.sheet_text.specs.declared.read.Taken.{Taken}
-use Rattle.sheet_text.specs.Read.{numberAt, digitOf, digitsFrom, moreAt, wordsAt, factorPlace, requestIn}
-use Rattle.sheet_text.proofs.Back.{back}
+use Rattle.sheet_words.specs.declared.read.Taken.{Taken}
+use Rattle.sheet_words.specs.Read.{numberAt, digitOf, digitsFrom, moreAt, wordsAt, factorPlace, requestIn}
+use Rattle.sheet_words.proofs.Back.{back}
 
 -- ---- a word of 16 digits has 64 bits
 

@@ -5,17 +5,17 @@ ghost use mathlib.Core.Bool.{true};
 ghost use Prim.Native.Nat.{_≤_, _<_, _+_, _*_};
 ghost use lib.ListN.{length, take};
 ghost use Rattle.model.specs.Text as Text;
-ghost use Rattle.sheet_text.specs.Read as Read;
+ghost use Rattle.sheet_words.specs.Read as Read;
 ghost use lib.Ieee.{binary64};
 ghost use Rattle.model.specs.Move.{moveCall};
-use crate::float::numbers_of;
-use crate::float::words_of;
-use crate::print::put_accepted;
-use crate::print::put_answer;
-use crate::print::put_request;
-use crate::read::number;
-use crate::read::words;
 use schur::reorder::reorder_schur;
+use sheet_words::float::numbers_of;
+use sheet_words::float::words_of;
+use sheet_words::print::put_accepted;
+use sheet_words::print::put_answer;
+use sheet_words::print::put_request;
+use sheet_words::read::number;
+use sheet_words::read::words;
 
 // Room for the words of a text: 40,000 bytes hold at most 2352.
 fn word_room() -> [u64; 2353]

@@ -57,7 +57,7 @@ pub extern "C" fn vx_fmin(p: f64, q: f64) -> f64
 pub extern "C" fn vx_sqrt(x: f64) -> f64
     ensures { λ r. ⌜ r ≡ Root.sqrt binary64 x ⌝ }
 {
-    arith::sqrt::sqrt(x)
+    root::sqrt::sqrt(x)
 }
 
 #[no_mangle]

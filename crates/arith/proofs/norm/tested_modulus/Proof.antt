@@ -2,7 +2,7 @@
 use borrow.Author.Needs.{needs}
 use mathlib.Core.Path.{sym, _∙_}
 use lib.Ieee.{binary64, div, ofBits}
-use Rattle.arith.proofs.Compare.{is-nan, is-number}
+use Rattle.root.proofs.Compare.{is-nan, is-number}
 use Rattle.arith.proofs.Hypot.{hypot-first, hypot-second, hypot-nan-first, hypot-nan-second, hypot-ordered}
 use Rattle.arith.proofs.norm.tested_modulus.Statement.{statement}
 use Rattle.arith.proofs.norm.tested_modulus.Tie as tie

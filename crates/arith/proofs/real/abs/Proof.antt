@@ -1,6 +1,6 @@
 -- `arith::real::abs` meets its contract. Assumes nothing.
 use lib.Ieee.{binary64, ofBits}
-use Rattle.arith.proofs.Compare.{passed, abs-below, abs-zero, abs-other}
+use Rattle.root.proofs.Compare.{passed, abs-below, abs-zero, abs-other}
 use Rattle.arith.proofs.real.abs.Statement.{statement}
 use Rattle.arith.proofs.real.abs.Tie as tie
 

@@ -4,7 +4,7 @@ use mathlib.Core.Bool.{_||_}
 use mathlib.Core.Logic.{⊎-elim}
 use lib.Ieee.{lt, isNan}
 use Rattle.model.specs.Arith.{fmin}
-use Rattle.arith.proofs.Compare.{differs-nan}
+use Rattle.root.proofs.Compare.{differs-nan}
 use Rattle.arith.proofs.real.fmin.Statement.{statement}
 use Rattle.arith.proofs.real.fmin.Tie as tie
 

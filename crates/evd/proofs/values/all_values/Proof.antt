@@ -5,7 +5,7 @@ use native.Mathlib.Nat.{sub-zero}
 use lib.ListN.{length}
 use lib.Ieee.{binary64}
 use Rattle.model.specs.Values.{valuesFrom}
-use Rattle.evd.proofs.Left.{left-none}
+use Rattle.solve.proofs.Left.{left-none}
 use borrow.Author.Needs.{needs}
 use Rattle.evd.proofs.values.all_values.Statement.{statement}
 use Rattle.evd.proofs.values.all_values.Tie as tie

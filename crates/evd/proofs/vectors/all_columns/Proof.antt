@@ -4,7 +4,7 @@ use Prim.Native.Nat.{_≤_}
 use lib.ListN.{length}
 use lib.Ieee.{binary64}
 use Rattle.model.specs.Vectors.{blocksDown, columnsOf, vectorsOf}
-use Rattle.evd.proofs.Left.{le-zero}
+use Rattle.solve.proofs.Left.{le-zero}
 use borrow.Author.Needs.{needs}
 use Rattle.evd.proofs.vectors.all_columns.Statement.{statement}
 use Rattle.evd.proofs.vectors.all_columns.Tie as tie

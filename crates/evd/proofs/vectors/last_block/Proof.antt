@@ -1,5 +1,5 @@
 -- `evd::vectors::last_block` meets its contract. Assumes nothing.
-use Rattle.evd.proofs.Blocks.{last-row, last-one, last-two}
+use Rattle.solve.proofs.Blocks.{last-row, last-one, last-two}
 use borrow.Author.Needs.{needs}
 use Rattle.evd.proofs.vectors.last_block.Statement.{statement}
 use Rattle.evd.proofs.vectors.last_block.Tie as tie

@@ -4,7 +4,7 @@ use Prim.Native.Nat.{_-_, _≤_}
 use native.Mathlib.Nat.{sub-zero}
 use lib.ListN.{length, length-set}
 use Rattle.model.specs.Vectors.{negatedRun}
-use Rattle.evd.proofs.Left.{left-suc, left-none}
+use Rattle.solve.proofs.Left.{left-suc, left-none}
 use borrow.Author.Needs.{needs}
 use Rattle.evd.proofs.vectors.negate_run.Statement.{statement}
 use Rattle.evd.proofs.vectors.negate_run.Tie as tie

@@ -7,7 +7,7 @@ use lib.ListN.{length, length-set}
 use lib.Ieee.{binary64}
 use Rattle.model.specs.Vectors.{scaledRuns}
 use Rattle.evd.specs.View.{start}
-use Rattle.evd.proofs.Left.{left-suc, left-none}
+use Rattle.solve.proofs.Left.{left-suc, left-none}
 use borrow.Author.Needs.{needs}
 use Rattle.evd.proofs.vectors.scale_runs.Statement.{statement}
 use Rattle.evd.proofs.vectors.scale_runs.Tie as tie

@@ -1,6 +1,6 @@
 -- `schur::exchange::exchange_whole` meets its contract. Assumes nothing.
 use Rattle.schur.proofs.Exchanges.{whole-step}
-use Rattle.schur.proofs.Runs.{resized, still}
+use Rattle.form.proofs.Runs.{resized, still}
 use mathlib.Core.Path.{_∙_}
 use native.Mathlib.Omega.{arith}
 use borrow.Author.Needs.{needs}

@@ -1,5 +1,5 @@
 -- `schur::exchange::swap_of` meets its contract. Assumes nothing.
-use Rattle.schur.proofs.Steps.{one-swap}
+use Rattle.swaps.proofs.Steps.{one-swap}
 use Rattle.model.specs.Swaps.{swapOf, swap11, swap12, swap21}
 use mathlib.Core.Path.{refl, sym}
 use lib.Dec.{lit≤}

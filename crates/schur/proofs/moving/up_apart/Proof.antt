@@ -1,5 +1,5 @@
 -- `schur::moving::up_apart` meets its contract. Assumes nothing.
-use Rattle.schur.proofs.Runs.{resized, still}
+use Rattle.form.proofs.Runs.{resized, still}
 use Rattle.schur.proofs.Ways.{stands-as, up-one-is, up-past-is}
 use mathlib.Core.Path.{refl, sym, _∙_}
 use native.Mathlib.Omega.{arith}

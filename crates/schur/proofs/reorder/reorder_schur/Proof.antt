@@ -2,7 +2,7 @@
 use native.Mathlib.Nat.{lt-of-le-of-lt}
 use Rattle.model.specs.Move.{moveCall, move}
 use Rattle.schur.proofs.Ways.{ended}
-use Rattle.schur.proofs.Accepted.{move-accepted}
+use Rattle.form.proofs.Accepted.{move-accepted}
 use borrow.Author.Tests.{eq-eqb, ne-eqb, lt-ltb, le-ltb}
 use mathlib.Core.Path.{_≡_, refl, sym, _∙_}
 use native.Mathlib.Omega.{arith}

@@ -1,7 +1,7 @@
 -- `schur::swap::schur_swap` meets its contract. Assumes nothing.
 use Rattle.model.specs.Exchange.{exchangeCall}
 use Rattle.schur.proofs.Ways.{ended-exchange}
-use Rattle.schur.proofs.Accepted.{exchange-accepted}
+use Rattle.form.proofs.Accepted.{exchange-accepted}
 use borrow.Author.Tests.{eq-eqb, ne-eqb, lt-ltb, le-ltb}
 use mathlib.Core.Path.{_≡_, refl, sym, _∙_}
 use native.Mathlib.Omega.{arith}

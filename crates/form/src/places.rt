@@ -1,0 +1,23 @@
+// Numbers of a form, read and written.
+ghost use mathlib.Core.Path.{_≡_};
+ghost use Prim.Native.Nat.{_<_};
+ghost use Rattle.model.specs.Form as Form;
+ghost use Rattle.model.specs.Swaps as Swaps;
+ghost use Rattle.form.specs.Run.{Sized};
+use crate::place;
+
+// The number in row i, column j.
+pub fn get(t: &[f64], n: usize, i: usize, j: usize) -> f64
+    requires { ⌜ Sized n (now t) × (i < n) × (j < n) ⌝ }
+    ensures { λ r. ⌜ r ≡ Form.entry n (now (t .entry)) i j ⌝ }
+{
+    t[place(n, n, i, j)]
+}
+
+// v in row i, column j.
+pub fn put(t: &mut [f64], n: usize, i: usize, j: usize, v: f64)
+    requires { ⌜ Sized n (now t) × (i < n) × (j < n) ⌝ }
+    ensures { λ _. ⌜ now (t .exit) ≡ Swaps.put n i j v (now (t .entry)) ⌝ }
+{
+    t[place(n, n, i, j)] = v;
+}

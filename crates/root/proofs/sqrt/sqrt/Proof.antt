@@ -1,0 +1,40 @@
+-- `root::sqrt::sqrt` meets its contract: the special cases by the two tests on zero, and the positive finite numbers by their patterns. Assumes nothing.
+use mathlib.Core.Path.{sym, ap, _∙_, subst}
+use lib.Dec.{T}
+use lib.Ieee.{binary64, fits, div, ofBits}
+use lib.Ieee.Bits.{ofBits-toBits}
+use borrow.Author.Needs.{needs}
+use Rattle.model.specs.Root.{sqrt}
+use Rattle.root.proofs.Compare.{passed, failed}
+use Rattle.laws.proofs.RootCases.{sqrt-below, sqrt-itself, sqrt-infinite, above-no-nan, above-bits}
+use Rattle.root.proofs.sqrt.sqrt.Statement.{statement}
+use Rattle.root.proofs.sqrt.sqrt.Tie as tie
+
+held : (c : tie.Start) → T (fits binary64 (c .args .x))
+held c = subst T (sym (c .good .0 .1)) tt
+
+returns : tie.Need-returns
+unfolding div ofBits
+returns c = sym (sqrt-below binary64 (c .before .args .x) (passed (c .if1 .taken)))
+
+float-to-bits-b : tie.Need-float-to-bits-b
+unfolding ofBits
+float-to-bits-b c = above-no-nan (c .before .before .args .x) (passed (c .if2 .taken))
+
+root-of-requires : tie.Need-root-of-requires
+unfolding ofBits
+root-of-requires c κs = (above-bits binary64 _ (held (c .before .before .before)) (passed (c .before .if2 .taken)), c .if3 .taken)
+
+returns-2 : tie.Need-returns-2
+returns-2 c = c .root-of .ensures ∙ ap (sqrt binary64) (ofBits-toBits binary64 _ (held (c .before .before .before .before)))
+
+returns-3 : tie.Need-returns-3
+unfolding ofBits
+returns-3 c = sym (sqrt-infinite binary64 _ (held (c .before .before .before)) (passed (c .before .if2 .taken)) (c .if3 .left))
+
+returns-4 : tie.Need-returns-4
+unfolding ofBits
+returns-4 c = sym (sqrt-itself binary64 _ (failed (c .before .if1 .left)) (failed (c .if2 .left)))
+
+pub sqrt-spec : {M : Type 1} → statement M
+sqrt-spec = tie.close (tie.spec returns float-to-bits-b root-of-requires returns-2 returns-3 returns-4)

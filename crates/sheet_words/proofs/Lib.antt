@@ -1,0 +1,4 @@
+pub mod Numerals
+pub mod Reading
+pub mod Back
+pub mod Nan

@@ -1,0 +1,77 @@
+-- `sheet_words::print::put_accepted` meets its contract, line by line. Assumes nothing.
+use mathlib.Core.Path.{_≡_, refl, sym, ap, _∙_}
+use native.Mathlib.Omega.{arith}
+use Rattle.model.specs.Text.{accepted}
+use borrow.Author.Needs.{needs}
+use Rattle.sheet_words.proofs.print.put_accepted.Statement.{statement}
+use Rattle.sheet_words.proofs.print.put_accepted.Tie as tie
+
+slice-aggregate-put-number-line : tie.Need-slice-aggregate-put-number-line
+slice-aggregate-put-number-line c = search needs
+
+put-number-line-requires : tie.Need-put-number-line-requires
+put-number-line-requires c κs = search needs
+
+slice-aggregate-put-number-line-2 : tie.Need-slice-aggregate-put-number-line-2
+slice-aggregate-put-number-line-2 c = search needs
+
+put-number-line-requires-2 : tie.Need-put-number-line-requires-2
+put-number-line-requires-2 c κs = search needs
+
+slice-aggregate-put-number-line-3 : tie.Need-slice-aggregate-put-number-line-3
+slice-aggregate-put-number-line-3 c = search needs
+
+put-number-line-requires-3 : tie.Need-put-number-line-requires-3
+put-number-line-requires-3 c κs = search needs
+
+slice-aggregate-put-number-line-4 : tie.Need-slice-aggregate-put-number-line-4
+slice-aggregate-put-number-line-4 c = search needs
+
+put-number-line-requires-4 : tie.Need-put-number-line-requires-4
+put-number-line-requires-4 c κs = search needs
+
+slice-aggregate-put-words-line : tie.Need-slice-aggregate-put-words-line
+slice-aggregate-put-words-line c = search needs
+
+put-words-line-requires : tie.Need-put-words-line-requires
+put-words-line-requires c κs = search needs
+
+slice-aggregate-put-words-line-2 : tie.Need-slice-aggregate-put-words-line-2
+slice-aggregate-put-words-line-2 c = search needs
+
+put-words-line-requires-2 : tie.Need-put-words-line-requires-2
+put-words-line-requires-2 c κs = search needs
+
+same-length : tie.Need-same-length
+same-length c = search needs
+
+returns : tie.Need-returns
+unfolding accepted
+returns c =
+    let at-put-words-line2 = c .before .before in
+    let at-put-words-line = at-put-words-line2 .before .before .before .before .before in
+    let at-put-number-line4 = at-put-words-line .before .before .before .before .before in
+    let at-put-number-line3 = at-put-number-line4 .before .before .before .before .before in
+    let at-put-number-line2 = at-put-number-line3 .before .before .before .before .before in
+    let at-put-number-line = at-put-number-line2 .before .before .before .before .before in
+    let at-start = at-put-number-line .before .before .before .before .before .before in
+    (omega (arith, at-put-words-line2 .put-words-line2 .ensures .0, at-put-words-line2 .put-words-line2 .kept .0, at-put-words-line .put-words-line .ensures .0, at-put-words-line .put-words-line .kept .0, at-put-number-line4 .put-number-line4 .ensures .0, at-put-number-line4 .put-number-line4 .kept .0, at-put-number-line3 .put-number-line3 .ensures .0, at-put-number-line3 .put-number-line3 .kept .0, at-put-number-line2 .put-number-line2 .ensures .0, at-put-number-line2 .put-number-line2 .kept .0, at-put-number-line .put-number-line .ensures .0, at-put-number-line .put-number-line .kept .0, at-start .pre), rw (at-put-words-line2 .put-words-line2 .ensures .1, at-put-words-line .put-words-line .ensures .1, at-put-number-line4 .put-number-line4 .ensures .1, at-put-number-line3 .put-number-line3 .ensures .1, at-put-number-line2 .put-number-line2 .ensures .1, at-put-number-line .put-number-line .ensures .1))
+
+pub put-accepted-spec : {M : Type 1} → statement M
+put-accepted-spec =
+    tie.close
+    (tie.spec
+    slice-aggregate-put-number-line
+    put-number-line-requires
+    slice-aggregate-put-number-line-2
+    put-number-line-requires-2
+    slice-aggregate-put-number-line-3
+    put-number-line-requires-3
+    slice-aggregate-put-number-line-4
+    put-number-line-requires-4
+    slice-aggregate-put-words-line
+    put-words-line-requires
+    slice-aggregate-put-words-line-2
+    put-words-line-requires-2
+    same-length
+    returns)

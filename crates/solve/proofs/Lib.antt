@@ -1,0 +1,4 @@
+pub mod Places
+pub mod Left
+pub mod Sums
+pub mod Blocks

@@ -1,0 +1,73 @@
+// What the calls share: the lines with a further buffer, places of a square, a 2-block's size.
+ghost use mathlib.Core.Path.{_≡_};
+ghost use mathlib.Core.Bool.{Bool, cond};
+ghost use Prim.Native.Nat.{_+_, _-_, _*_, _<_, _≤_};
+ghost use lib.Dec.{eqb};
+ghost use lib.Ieee.{binary64};
+ghost use Rattle.model.specs.Form.{entry};
+ghost use Rattle.model.specs.Values as Values;
+ghost use Rattle.solve.specs.Sizes.{Square};
+use arith::real::abs;
+use root::sqrt::sqrt;
+
+// The first line that applies, of the line of a form alone and of a further buffer's length.
+pub fn with_further(line: usize, wrong: bool) -> usize
+    ensures { λ r. ⌜ r ≡ cond (eqb line 2) 2 (cond (eqb line 3) 3 (cond wrong 4 line)) ⌝ }
+{
+    if line == 2 {
+        return 2;
+    }
+    if line == 3 {
+        return 3;
+    }
+    if wrong { 4 } else { line }
+}
+
+// Where row i, column j stands in a square of n rows, its columns ld apart.
+pub fn spot(ld: usize, n: usize, i: usize, j: usize) -> usize
+    requires { ⌜ (ld ≤ 128) × (n ≤ 64) × (i < n) × (j < n) ⌝ }
+    ensures { λ r. ⌜ (r ≡ i + ld * j) × (r + ld < n + ld * n) ⌝ }
+{
+    i + ld * j
+}
+
+// Where row i starts in column j, of which the rest of the row goes on.
+pub fn row(ld: usize, n: usize, i: usize, j: usize) -> usize
+    requires { ⌜ (ld ≤ 128) × (n ≤ 64) × (i < n) × (j ≤ n) ⌝ }
+    ensures { λ r. ⌜ (r ≡ i + ld * j) × (r + ld * (n - j) < n + ld * n) ⌝ }
+{
+    i + ld * j
+}
+
+// Where column j starts in a form of n columns, ld places apart.
+pub fn top(ld: usize, n: usize, j: usize) -> usize
+    requires { ⌜ (ld ≤ 128) × (n ≤ 64) × (j < n) ⌝ }
+    ensures { λ r. ⌜ (r ≡ ld * j) × (r + ld ≤ ld * n) ⌝ }
+{
+    ld * j
+}
+
+// The numbers of a 2-block that a solver reads: the lower diagonal number, b above and c below.
+pub struct Block {
+    pub d: f64,
+    pub b: f64,
+    pub c: f64,
+}
+
+// The 2-block in rows i and i + 1.
+pub fn block_of(ld: usize, n: usize, a: &[f64], i: usize) -> Block
+    requires { ⌜ Square (now a) ld n × (i + 1 < n) ⌝ }
+    ensures { λ r. ⌜ (r .d ≡ entry ld (now (a .entry)) (i + 1) (i + 1)) × (r .b ≡ entry ld (now (a .entry)) i (i + 1)) × (r .c ≡ entry ld (now (a .entry)) (i + 1) i) ⌝ }
+{
+    let d = a[spot(ld, n, i + 1, i + 1)];
+    let b = a[spot(ld, n, i, i + 1)];
+    let c = a[spot(ld, n, i + 1, i)];
+    Block { d, b, c }
+}
+
+// The imaginary size of a 2-block with these numbers off its diagonal.
+pub fn imag_size(lower: f64, upper: f64) -> f64
+    ensures { λ r. ⌜ r ≡ Values.imagSize binary64 lower upper ⌝ }
+{
+    sqrt(abs(lower)) * sqrt(abs(upper))
+}

@@ -1,0 +1,55 @@
+-- One step after another is the step of both. Assumes nothing.
+use mathlib.Core.Path.{_≡_, refl, sym, ap, _∙_, subst}
+use Prim.Native.Nat.{ℕ, _+_}
+use native.Mathlib.Nat.{add-zero, zero-add}
+use mathlib.Core.Bool.{Bool, true, false, cond}
+use mathlib.Core.List.{List, [], _∷_, _++_}
+use lib.ListN.{length}
+use lib.Ieee.{Float, Format, binary64}
+use Rattle.model.specs.Columns.{Operation, onFactor, onColumns}
+use Rattle.model.specs.Exchange.{factorRows}
+use Rattle.model.specs.Swaps.{Change, andThen, windowAt, solutionOf, reflectors4, declines, swap22By, swap22}
+use Rattle.swaps.specs.Done.{Done, Step}
+
+onFactor-append : (f : Format) (ld k : ℕ) (a b : List Operation) (u : List Float) → onFactor f ld k (a ++ b) u ≡ onFactor f ld k b (onFactor f ld k a u)
+unfolding onFactor
+onFactor-append f ld k [] b u = refl
+onFactor-append f ld k (o ∷ a) b u = onFactor-append f ld k a b (onColumns f ld k o u)
+
+same-rows : (n : ℕ) (u v : List Float) → length u ≡ length v → factorRows n u ≡ factorRows n v
+unfolding factorRows
+same-rows n u v e = rw e
+
+pub done-then : {n : ℕ} {u t₁ u₁ t₂ u₂ : List Float} {c : Change} (next : List Float → Change)
+    → Done n u t₁ u₁ c → length u₁ ≡ length u → Done n u₁ t₂ u₂ (next t₁) → Done n u t₂ u₂ (andThen c next)
+unfolding andThen
+done-then {n} {u} {t₁} {u₁} {t₂} {u₂} {c} next a e b =
+    record {
+      form = b .form ∙ ap (λ (t : List Float). next t .form) (a .form);
+      factor =
+          b .factor
+          ∙ ap (λ (k : ℕ). onFactor binary64 n k (next t₁ .operations) u₁) (same-rows n u₁ u e)
+          ∙ ap (λ (v : List Float). onFactor binary64 n (factorRows n u) (next t₁ .operations) v) (a .factor)
+          ∙ ap (λ (t : List Float). onFactor binary64 n (factorRows n u) (next t .operations) (onFactor binary64 n (factorRows n u) (c .operations) u)) (a .form)
+          ∙ sym (onFactor-append binary64 n (factorRows n u) (c .operations) (next (c .form) .operations) u);
+    }
+
+pub step-then : {n : ℕ} {u t₁ u₁ t₂ u₂ : List Float} {s₁ d₁ s₂ d₂ : ℕ} {c : Change} (next : List Float → Change)
+    → Step n u t₁ u₁ s₁ d₁ c → length u₁ ≡ length u → Step n u₁ t₂ u₂ s₂ d₂ (next t₁) → Step n u t₂ u₂ (s₁ + s₂) (d₁ + d₂) (andThen c next)
+unfolding andThen
+step-then {c = c} next a e b =
+    record {
+      done = done-then next (a .done) e (b .done);
+      swaps = rw (a .swaps, b .swaps) (ap (λ (t : List Float). c .swaps + next t .swaps) (a .done .form));
+      declined = rw (a .declined, b .declined) (ap (λ (t : List Float). c .declined + next t .declined) (a .done .form));
+    }
+
+-- 2 against 2 is one run, declined or not
+pub one-swap : (f : Format) (ld n j : ℕ) (t : List Float) → swap22 f ld n j t .swaps ≡ 1
+unfolding swap22 swap22By
+one-swap f ld n j t = go (declines f (reflectors4 f (solutionOf f (windowAt ld t j))) (windowAt ld t j))
+  where
+    go : (b : Bool)
+        → cond b (record { form = t; operations = []; swaps = 1; declined = 1 }) (swap22By f ld n j (reflectors4 f (solutionOf f (windowAt ld t j))) t) .swaps ≡ 1
+    go true = refl
+    go false = refl
