@@ -47,6 +47,9 @@ pub fn run(plan: &Plan, sides: &Sides) {
 }
 
 fn shown(x: Spread) -> String {
+    if x.low == x.high {
+        return format!("{:.2}", x.middle);
+    }
     format!("{:.2} ({:.2}–{:.2})", x.middle, x.low, x.high)
 }
 
