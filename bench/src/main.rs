@@ -5,10 +5,12 @@ mod accuracy;
 #[allow(dead_code)]
 #[path = "../../oracle/src/arith.rs"]
 mod arith;
+mod arithmetic;
 mod exact;
 mod forms;
 mod lapack;
 mod note;
+mod report;
 #[allow(dead_code)]
 #[path = "../../oracle/src/generate/rng.rs"]
 mod rng;

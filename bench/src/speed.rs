@@ -1,7 +1,8 @@
-//! Times moves, vectors, values, the root and the modulus, and prints them as ratios.
+//! Times moves, vectors and values, and prints them as ratios.
 
-use crate::forms::{Form, Kind, between, unit};
-use crate::rng::Rng;
+use crate::arithmetic::arithmetic;
+use crate::forms::{Form, Kind, unit};
+use crate::report::{NAMES, Report, nanoseconds, shown};
 use crate::shim::Complex;
 use crate::sides::*;
 use crate::table::Table;
@@ -11,10 +12,11 @@ use std::io::IsTerminal;
 use std::time::{Duration, Instant};
 
 pub const SIZES: [usize; 5] = [4, 8, 16, 32, 64];
-const SEED: u64 = 2026;
+pub const SEED: u64 = 2026;
 /// Copies lent in one timed batch take no more than this, so that they stay in the second cache.
 const BATCH_BYTES: usize = 128 << 10;
 const MOST_COPIES: usize = 256;
+const BATCH_TIME: Duration = Duration::from_micros(60);
 
 pub struct Plan {
     /// A number keeps the rows of that size, any other word those whose name contains it.
@@ -26,7 +28,7 @@ pub struct Plan {
 }
 
 impl Plan {
-    fn wants(&self, name: &str, n: Option<usize>) -> bool {
+    pub fn wants(&self, name: &str, n: Option<usize>) -> bool {
         self.words.iter().all(|word| match word.parse::<usize>() {
             Ok(size) => n == Some(size),
             Err(_) => name.contains(word.as_str()),
@@ -40,37 +42,16 @@ pub struct Sides {
 }
 
 pub fn run(plan: &Plan, sides: &Sides) {
-    moves(plan, sides);
-    vectors(plan, sides);
-    values(plan);
-    arithmetic(plan);
-}
-
-fn shown(x: Spread) -> String {
-    if x.low == x.high {
-        return format!("{:.2}", x.middle);
-    }
-    format!("{:.2} ({:.2}–{:.2})", x.middle, x.low, x.high)
-}
-
-fn nanoseconds(x: Spread) -> String {
-    let digits = if x.middle < 100.0 { 1 } else { 0 };
-    format!("{:.digits$}", x.middle)
-}
-
-/// What issue 6 of 6 asks of moves of more than one exchange and of vectors.
-fn target(n: usize) -> f64 {
-    if n >= 16 { 1.0 } else { 1.5 }
-}
-
-const NAMES: [&str; 4] = ["ours", "the Rust", "LAPACK", "OpenBLAS"];
-
-/// The verdict on the ratios, in the order of the sides after ours; compared as they are printed.
-fn verdict(most: f64, names: &[&str], ratios: &[Spread]) -> String {
-    let above: Vec<&str> =
-        names.iter().zip(ratios).filter(|(_, r)| (r.middle * 100.0).round() / 100.0 > most).map(|(n, _)| *n).collect();
-    let said = if above.is_empty() { "met".to_string() } else { format!("NOT met: {}", above.join(", ")) };
-    format!("≤ {most:.1} {said}")
+    let report = &mut Report::new();
+    let tables = [
+        ("Moves", moves(plan, sides, report)),
+        ("Vectors", vectors(plan, sides, report)),
+        ("Values (LAPACK has no routine that only reads the values off a form)", values(plan)),
+        ("Root and modulus", arithmetic(plan, report)),
+    ];
+    progress("");
+    report.print(plan.markdown);
+    tables.iter().for_each(|(title, table)| table.print(title));
 }
 
 /// Shown on a terminal only, on one line that is wiped at the end.
@@ -80,6 +61,11 @@ fn progress(text: &str) {
     }
 }
 
+/// What issue 6 of 6 asks of moves of more than one exchange and of vectors.
+fn target(n: usize) -> f64 {
+    if n >= 16 { 1.0 } else { 1.5 }
+}
+
 type Moves = fn(&Form) -> Vec<(usize, usize)>;
 const KINDS_OF_MOVE: [(&str, Moves); 3] = [
     ("one adjacent move", Form::adjacent),
@@ -87,7 +73,7 @@ const KINDS_OF_MOVE: [(&str, Moves); 3] = [
     ("reversal by moves", Form::reversal),
 ];
 
-fn moves(plan: &Plan, sides: &Sides) {
+fn moves(plan: &Plan, sides: &Sides, report: &mut Report) -> Table {
     let heads =
         ["", "blocks", "factor", "n", "swaps", "ours, ns", "ours/Rust", "ours/LAPACK", "ours/OpenBLAS", "to reach"];
     let mut table = Table::new(plan.markdown, &heads);
@@ -106,7 +92,7 @@ fn moves(plan: &Plan, sides: &Sides) {
                     let swaps = check_moves(sides, &form, with_factor, &moves);
                     let times = time_moves(plan, sides, &form, with_factor, &moves);
                     let ratios: Vec<Spread> = (1..4).map(|k| times.ratio(0, k, plan.least)).collect();
-                    let asked = swaps > 1;
+                    let said = report.add(&name, n, (swaps > 1).then(|| target(n)), &ratios);
                     table.add(vec![
                         what.to_string(),
                         kind.name().to_string(),
@@ -117,14 +103,13 @@ fn moves(plan: &Plan, sides: &Sides) {
                         shown(ratios[0]),
                         shown(ratios[1]),
                         shown(ratios[2]),
-                        if asked { verdict(target(n), &NAMES[1..], &ratios) } else { "–".to_string() },
+                        said,
                     ]);
                 }
             }
         }
     }
-    progress("");
-    table.print("Moves");
+    table
 }
 
 /// Every side carries the moves out, ours as the Rust in every bit, none declines. Hands back the swaps.
@@ -154,7 +139,8 @@ fn check_moves(sides: &Sides, form: &Form, with_factor: bool, moves: &[(usize, u
 fn time_moves(plan: &Plan, sides: &Sides, form: &Form, with_factor: bool, moves: &[(usize, usize)]) -> Times {
     let (n, places) = (form.n, form.n * form.n);
     let factor = if with_factor { unit(n) } else { Vec::new() };
-    let copies = (BATCH_BYTES / (8 * (places + factor.len()))).clamp(1, MOST_COPIES);
+    let fitting = BATCH_BYTES / (8 * (places + factor.len()));
+    let copies = fitting.min(runs_that_fit(sides.all[0], form, &factor, moves)).clamp(1, MOST_COPIES);
     let mut t = vec![0.0; copies * places];
     let mut u = vec![0.0; copies * factor.len()];
     Times::take(sides.all.len(), copies, plan.budget, |k| {
@@ -177,12 +163,22 @@ fn time_moves(plan: &Plan, sides: &Sides, form: &Form, with_factor: bool, moves:
     })
 }
 
+/// How many runs of ours fit in a batch that is over before another process gets the core.
+fn runs_that_fit(side: Side, form: &Form, factor: &[f64], moves: &[(usize, usize)]) -> usize {
+    let (mut t, mut u) = (form.t.clone(), factor.to_vec());
+    let start = Instant::now();
+    for &(from, to) in moves {
+        black_box(side.reorder(form.n, &mut t, &mut u, from, to));
+    }
+    (BATCH_TIME.as_nanos() / start.elapsed().as_nanos().max(1)) as usize
+}
+
 /// Runs in one timed batch, so that it lasts some microseconds.
 fn runs_of(n: usize) -> usize {
     (2048 / (n * n)).clamp(1, 64)
 }
 
-fn vectors(plan: &Plan, sides: &Sides) {
+fn vectors(plan: &Plan, sides: &Sides, report: &mut Report) -> Table {
     let heads = ["", "blocks", "n", "ours, ns", "ours/Rust", "ours/LAPACK", "ours/OpenBLAS", "to reach"];
     let mut table = Table::new(plan.markdown, &heads);
     for kind in Kind::ALL {
@@ -208,6 +204,7 @@ fn vectors(plan: &Plan, sides: &Sides) {
                 start.elapsed()
             });
             let ratios: Vec<Spread> = (1..4).map(|k| times.ratio(0, k, plan.least)).collect();
+            let said = report.add(&name, n, Some(target(n)), &ratios);
             table.add(vec![
                 "vectors".to_string(),
                 kind.name().to_string(),
@@ -216,15 +213,14 @@ fn vectors(plan: &Plan, sides: &Sides) {
                 shown(ratios[0]),
                 shown(ratios[1]),
                 shown(ratios[2]),
-                verdict(target(n), &NAMES[1..], &ratios),
+                said,
             ]);
         }
     }
-    progress("");
-    table.print("Vectors");
+    table
 }
 
-fn values(plan: &Plan) {
+fn values(plan: &Plan) -> Table {
     let mut table = Table::new(plan.markdown, &["", "blocks", "n", "ours, ns", "ours/Rust"]);
     for kind in Kind::ALL {
         for n in SIZES {
@@ -260,85 +256,5 @@ fn values(plan: &Plan) {
             table.add([name].into_iter().chain(cells).collect());
         }
     }
-    progress("");
-    table.print("Values (LAPACK has no routine that only reads the values off a form)");
-}
-
-/// Many calls on numbers of many sizes, each by itself.
-fn each(numbers: &[(f64, f64)], out: &mut [f64], f: impl Fn(f64, f64) -> f64) -> Duration {
-    let start = Instant::now();
-    for ((p, q), out) in black_box(numbers).iter().zip(out.iter_mut()) {
-        *out = f(*p, *q);
-    }
-    let taken = start.elapsed();
-    black_box(out);
-    taken
-}
-
-/// The same, but each call waits for the result before it.
-fn in_turn(numbers: &[(f64, f64)], f: impl Fn(f64, f64) -> f64) -> Duration {
-    let start = Instant::now();
-    let mut last = 0.0;
-    for (p, q) in black_box(numbers) {
-        last = f(p + last * 1e-300, *q);
-    }
-    black_box(last);
-    start.elapsed()
-}
-
-fn arithmetic(plan: &Plan) {
-    const COUNT: usize = 512;
-    let rng = &mut Rng::new(SEED, "numbers", 0);
-    let mut wide = || between(rng, 1.0, 2.0) * 2f64.powi(rng.between(-40, 40) as i32);
-    let numbers: Vec<(f64, f64)> = (0..COUNT).map(|_| (wide(), wide())).collect();
-    // One row of a pair alike in size, as in a rotation.
-    let rng = &mut Rng::new(SEED, "pairs", 0);
-    let alike: Vec<(f64, f64)> = (0..COUNT).map(|_| (between(rng, -2.0, 2.0), between(rng, -2.0, 2.0))).collect();
-    let mut out = vec![0.0; COUNT];
-
-    let mut table = Table::new(plan.markdown, &["", "beside", "ours, ns", "theirs, ns", "ours/theirs", "to reach"]);
-    let mut row = |name: &str, beside: &str, most: Option<f64>, run: &mut dyn FnMut(usize) -> Duration| {
-        if !plan.wants(&format!("{name} {beside}"), None) {
-            return;
-        }
-        let times = Times::take(2, COUNT, plan.budget, run);
-        let ratio = times.ratio(0, 1, plan.least);
-        table.add(vec![
-            name.to_string(),
-            beside.to_string(),
-            nanoseconds(times.nanoseconds(0)),
-            nanoseconds(times.nanoseconds(1)),
-            shown(ratio),
-            most.map_or("–".to_string(), |most| verdict(most, &[beside], &[ratio])),
-        ]);
-    };
-    let ours = |x: f64, _: f64| our_sqrt(x);
-    row("sqrt, each by itself", "the instruction behind a call", Some(6.0), &mut |k| match k {
-        0 => each(&numbers, &mut out, ours),
-        _ => each(&numbers, &mut out, |x, _| black_box(called_sqrt as extern "C" fn(f64) -> f64)(x)),
-    });
-    row("sqrt, each by itself", "the bare instruction", Some(6.0), &mut |k| match k {
-        0 => each(&numbers, &mut out, ours),
-        _ => each(&numbers, &mut out, |x, _| hardware_sqrt(x)),
-    });
-    row("sqrt, each after the last", "the bare instruction", Some(6.0), &mut |k| match k {
-        0 => in_turn(&numbers, ours),
-        _ => in_turn(&numbers, |x, _| hardware_sqrt(x)),
-    });
-    for (numbers, sort) in [(&numbers, "any sizes"), (&alike, "like sizes")] {
-        let name = format!("hypot, each by itself, {sort}");
-        row(&name, "the Rust helper", None, &mut |k| match k {
-            0 => each(numbers, &mut out, our_hypot),
-            _ => each(numbers, &mut out, |p, q| rust_hypot(p, q)),
-        });
-        row(&name, "libm", None, &mut |k| match k {
-            0 => each(numbers, &mut out, our_hypot),
-            _ => each(numbers, &mut out, f64::hypot),
-        });
-    }
-    row("hypot, each after the last, like sizes", "the Rust helper", None, &mut |k| match k {
-        0 => in_turn(&alike, our_hypot),
-        _ => in_turn(&alike, |p, q| rust_hypot(p, q)),
-    });
-    table.print("Root and modulus");
+    table
 }
