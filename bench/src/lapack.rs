@@ -1,6 +1,7 @@
 //! A LAPACK opened while the program runs, so that two of them can be timed in one process.
 
 use std::ffi::{CStr, CString, c_char, c_int, c_void};
+use std::mem::MaybeUninit;
 
 type Int<'a> = &'a c_int;
 type Dtrexc = unsafe extern "C" fn(
@@ -75,9 +76,10 @@ impl Lapack {
         }
     }
 
-    /// A move; hands back INFO. Rows count from 0.
+    /// A move; hands back INFO. Rows count from 0. LAPACK only writes to its work space first, so it is
+    /// not filled here, which would be timed too.
     pub fn reorder(&self, n: usize, t: &mut [f64], u: &mut [f64], from: usize, to: usize) -> c_int {
-        let mut work = [0.0; MOST];
+        let mut work = MaybeUninit::<[f64; MOST]>::uninit();
         let (size, mut ifst, mut ilst, mut info) = (n as c_int, from as c_int + 1, to as c_int + 1, 0);
         let wanted = if u.is_empty() { c"N" } else { c"V" };
         unsafe {
@@ -90,7 +92,7 @@ impl Lapack {
                 &size,
                 &mut ifst,
                 &mut ilst,
-                work.as_mut_ptr(),
+                work.as_mut_ptr().cast(),
                 &mut info,
                 1,
             );
@@ -100,13 +102,14 @@ impl Lapack {
 
     /// The vectors by dtrevc3, the routine that LAPACK's own drivers call.
     pub fn vectors(&self, n: usize, t: &[f64], v: &mut [f64]) -> c_int {
-        let mut work = [0.0; 3 * MOST];
-        let (size, lwork, mut m, mut info, mut select, mut none) = (n as c_int, 3 * n as c_int, 0, 0, [0; MOST], [0.0]);
+        let mut work = MaybeUninit::<[f64; 3 * MOST]>::uninit();
+        let mut select = MaybeUninit::<[c_int; MOST]>::uninit();
+        let (size, lwork, mut m, mut info, mut none) = (n as c_int, 3 * n as c_int, 0, 0, [0.0]);
         unsafe {
             (self.dtrevc3)(
                 c"R".as_ptr(),
                 c"A".as_ptr(),
-                select.as_mut_ptr(),
+                select.as_mut_ptr().cast(),
                 &size,
                 t.as_ptr(),
                 &size,
@@ -116,7 +119,7 @@ impl Lapack {
                 &size,
                 &size,
                 &mut m,
-                work.as_mut_ptr(),
+                work.as_mut_ptr().cast(),
                 &lwork,
                 &mut info,
                 1,
