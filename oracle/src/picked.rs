@@ -69,7 +69,9 @@ fn systems() -> Vec<[[f64; 4]; 3]> {
             systems.push(system);
         }
     }
-    for (k, m) in [-1070, -1000, -500, 500, 1000, 1020].iter().flat_map(|k| [-1070, -500, 0, 500, 1020].map(|m| (*k, m))) {
+    for (k, m) in
+        [-1070, -1000, -500, 500, 1000, 1020].iter().flat_map(|k| [-1070, -500, 0, 500, 1020].map(|m| (*k, m)))
+    {
         systems.push([base[0].map(|x| scaled(x, k)), base[1].map(|x| scaled(x, k)), base[2].map(|x| scaled(x, m))]);
     }
     systems
