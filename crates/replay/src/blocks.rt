@@ -3,12 +3,12 @@ ghost use mathlib.Core.Path.{_≡_};
 ghost use lib.ListN.{length};
 ghost use Rattle.linalg.specs.View.{block, values};
 ghost use Rattle.replay.specs.Lines as Lines;
-use crate::calls::Outcome;
-use crate::calls::judge;
 use linalg::lahqr_schur22::Block;
 use linalg::lahqr_schur22::Values;
 use replay_text::float::float_of;
 use replay_text::float::is_word;
+use replay_text::outcome::Outcome;
+use replay_text::outcome::judge;
 
 // The rows of four words, column after column.
 fn square(a: u64, c: u64, b: u64, d: u64) -> [[f64; 2]; 2]
