@@ -14,6 +14,9 @@ const ROWS: [usize; 6] = [1, 2, 3, 4, 5, 8];
 const TOO_MANY: usize = 65;
 /// How many cases are drawn in search of what is asked for.
 const TRIES: u64 = 20_000;
+/// Exchanges of two 2-blocks in four rows: three that decline above the bound by less than a tenth,
+/// three that do not, below it by less than a tenth.
+const NEAR: [u64; 6] = [0x41b2, 0x42b2, 0x42e4, 0x3ae, 0x219e, 0x2ff2];
 /// A position outside every form.
 const OUTSIDE: usize = 70;
 
@@ -112,6 +115,11 @@ fn drawn(call: &'static str, n: usize, count: usize, wanted: impl Fn(&Record, &N
     let found: Vec<Record> = cases.filter(fits).take(count).collect();
     assert_eq!(found.len(), count, "{call} of {n} rows");
     found
+}
+
+fn near() -> Vec<Record> {
+    let rows = Sizes { least: 4, most: 4 };
+    NEAR.iter().map(|index| generate::case("schur_swap", SEED, *index, rows)).collect()
 }
 
 /// A buffer of any content, as long as n rows have it.
@@ -236,6 +244,7 @@ fn moves() -> Vec<Record> {
         }
     }
     cases.extend(drawn(call, 8, 2, |_, notes| notes.declined > 0 && notes.splits > 0));
+    cases.extend(near().iter().map(|c| a_move(c.l("t").to_vec(), c.l("u").to_vec(), 0, 3)));
     for sizes in [&[2, 2][..], &[1, 2, 1]] {
         cases.extend(odd_forms(sizes).into_iter().map(|t| a_move(t, Vec::new(), 0, 3)).filter(accepted));
     }
@@ -296,6 +305,7 @@ fn exchanges() -> Vec<Record> {
         let odd = odd_forms(&[n1, n2]).into_iter().map(|t| an_exchange(t, Vec::new(), 0, n1, n2));
         cases.extend(odd.filter(accepted));
     }
+    cases.extend(near());
     for x in ODD {
         let factor = |p: usize| (0..16).map(|k| if k == p { x } else { k as f64 }).collect();
         cases.extend([0, 6, 15].map(|p| an_exchange(form(&[2, 2]), factor(p), 0, 2, 2)));
@@ -443,6 +453,12 @@ mod tests {
             let told: Vec<Option<usize>> = refusals(&base, &lines).iter().map(number).collect();
             assert_eq!(told, expected, "{}", base.call);
         }
+    }
+
+    #[test]
+    fn declines_are_near_the_bound() {
+        let declined: Vec<usize> = near().iter().map(|case| calls::answer(case).0.n("declined")).collect();
+        assert_eq!(declined, [1, 1, 1, 0, 0, 0]);
     }
 
     #[test]

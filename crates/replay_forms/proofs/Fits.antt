@@ -8,7 +8,7 @@ use lib.Dec.{eqb, leb}
 use lib.ListN.{length, take}
 use lib.Seq.{length-take-le}
 use lib.Ieee.{Float}
-use borrow.Author.Tests.{leb-true, eqb-true, ne-eqb, not-false}
+use borrow.Author.Tests.{leb-true, eqb-true, ne-eqb, not-true, not-false}
 use Rattle.replay_forms.specs.Lines.{fits}
 
 pub record Fit (words rest once a b : ℕ) : Type 0 where
@@ -30,9 +30,16 @@ module _ (words rest once a b : ℕ) where
       let s = both (leb once 4225) (leb a 4225) (q .0) in
       record { given = leb-true _ _ (s .0); first = leb-true _ _ (s .1); second = leb-true _ _ (q .1); all = eqb-true _ _ (p .1) }
 
-  -- a call's answer that was not turned away
-  pub fit : (r : Bool) → r ≡ fits words rest once a b → not r ≡ false → Fit words rest once a b
-  fit r e h = told (sym e ∙ not-false r h)
+  -- what the call of `fits` answered, and the branch after it
+  module _ (r : Bool) (is : r ≡ fits words rest once a b) where
+    pub no : not r ≡ true → fits words rest once a b ≡ false
+    no h = sym is ∙ not-true r h
+
+    pub yes : not r ≡ false → fits words rest once a b ≡ true
+    yes h = sym is ∙ not-false r h
+
+    pub fit : not r ≡ false → Fit words rest once a b
+    fit h = told (yes h)
 
   pub short : words < rest → fits words rest once a b ≡ false
   unfolding fits
