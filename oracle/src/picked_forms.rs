@@ -76,7 +76,8 @@ fn overgrown() -> Vec<f64> {
     t
 }
 
-/// The form with x in each place that keeps it a form, and beside the diagonal's blocks.
+/// The form with NaN and the infinities in each place down to the subdiagonal; some of these are
+/// turned away.
 fn odd_forms(sizes: &[usize]) -> Vec<Vec<f64>> {
     let base = form(sizes);
     let n: usize = sizes.iter().sum();
@@ -122,14 +123,10 @@ fn near() -> Vec<Record> {
     NEAR.iter().map(|index| generate::case("schur_swap", SEED, *index, rows)).collect()
 }
 
-/// A buffer of any content, as long as n rows have it.
-fn content(n: usize, times: usize) -> Vec<f64> {
-    let mut all: Vec<f64> = Vec::new();
-    for case in drawn("column", n, times.div_ceil(n * n).max(1), |c, _| c.l("v").len() == n * n) {
-        all.extend(case.l("v"));
-    }
-    all.truncate(times);
-    all
+/// So many numbers of every class, as drawn for n rows.
+fn content(n: usize, count: usize) -> Vec<f64> {
+    let lists = drawn("column", n, count.div_ceil(n * n).max(1), |c, _| c.l("v").len() == n * n);
+    lists.iter().flat_map(|case| case.l("v").to_vec()).take(count).collect()
 }
 
 fn number_set(mut case: Record, key: &str, to: usize) -> Record {
