@@ -6,7 +6,7 @@ use std::fs;
 use std::path::{Path, PathBuf};
 use std::process::Command;
 
-fn main() {
+pub fn main() {
     let here = PathBuf::from(env::var("CARGO_MANIFEST_DIR").unwrap());
     let out = PathBuf::from(env::var("OUT_DIR").unwrap());
     println!("cargo:rerun-if-changed=build.rs");
@@ -74,7 +74,7 @@ fn block_values(text: &str) -> String {
     let body = &text[at..at + closing(&text[at..])];
     let head = "pub fn block_values<T: RealField>(H: MatRef<'_, T>, V: MatRef<'_, T>, \
         eigvals: &mut [Complex<T>], eigvecs: MatMut<'_, Complex<T>>) {";
-    let set = "let (n, limit) = (H.nrows(), H.nrows()); let perm: Vec<usize> = (0..n).collect(); \
+    let set = "let (n, limit, perm) = (H.nrows(), H.nrows(), &ROWS); \
         let mut eigvecs = eigvecs; let mut idx = 0usize;";
     format!("{head}\n{set}\n{body}\n}}\n")
 }

@@ -1,12 +1,12 @@
 //! Runs the same cases on the Rust and on the archive and compares every bit.
 
 use crate::generate::{self, Sizes};
+use crate::progress::Progress;
 use crate::record::{Record, Value};
 use crate::tally::Tally;
 use crate::{archive, calls};
 use std::io::{self, Write};
 use std::process::{Command, Stdio};
-use std::time::{Duration, Instant};
 
 /// Differences printed in full for each call; the rest are counted.
 const SHOWN: u64 = 5;
@@ -22,45 +22,59 @@ pub struct Plan {
 
 /// True if nothing differed.
 pub fn run(plan: &Plan) -> io::Result<bool> {
-    let (mut compared, mut absent, mut differing) = (Vec::new(), Vec::new(), 0);
-    for name in &plan.calls {
-        match compare(plan, name)? {
-            Some(differences) => {
-                compared.push(*name);
-                differing += differences;
-            }
-            None => absent.push(*name),
-        }
-    }
-    println!("compared: {}", compared.join(" "));
-    println!("absent: {}", absent.join(" "));
-    println!("differences: {differing}");
-    if compared.is_empty() {
+    let mut progress = Progress::new(plan.count * plan.calls.len() as u64);
+    let found = compare_all(plan, &mut progress)?;
+    println!("compared: {}", found.compared.join(" "));
+    println!("absent: {}", found.absent.join(" "));
+    println!("differences: {}", found.differing);
+    if found.compared.is_empty() {
         return Err(io::Error::other("nothing to compare with: build with VOLMEIXI_ARCHIVE, or give --sheet"));
     }
-    Ok(differing == 0)
+    Ok(found.differing == 0)
+}
+
+/// The calls of a plan that could be compared, those that could not, and how many cases differed.
+pub struct Found {
+    pub compared: Vec<&'static str>,
+    pub absent: Vec<&'static str>,
+    pub differing: u64,
+}
+
+pub fn compare_all(plan: &Plan, progress: &mut Progress) -> io::Result<Found> {
+    let mut found = Found { compared: Vec::new(), absent: Vec::new(), differing: 0 };
+    for name in &plan.calls {
+        match compare(plan, name, progress)? {
+            Some(differences) => {
+                found.compared.push(*name);
+                found.differing += differences;
+            }
+            None => found.absent.push(*name),
+        }
+    }
+    Ok(found)
 }
 
 /// How many cases of one call differed; `None` if there is nothing to compare with.
-fn compare(plan: &Plan, name: &'static str) -> io::Result<Option<u64>> {
+fn compare(plan: &Plan, name: &'static str, progress: &mut Progress) -> io::Result<Option<u64>> {
     let (mut tally, mut differing) = (Tally::default(), 0);
-    let mut shown = Instant::now();
     for index in 0..plan.count {
         let case = generate::case(name, plan.seed, index, plan.sizes);
-        let Some(ours) = other_side(plan, &case)? else { return Ok(None) };
+        let Some(ours) = other_side(plan, &case)? else {
+            progress.skip(plan.count);
+            return Ok(None);
+        };
         let (rust, notes) = calls::answer(&case);
         tally.add(&rust, &notes);
         if let Some(place) = rust.difference(&ours) {
             differing += 1;
             if differing <= SHOWN {
+                progress.wipe();
                 show(&case, &rust, &ours, &place);
             }
         }
-        if shown.elapsed() > Duration::from_secs(5) {
-            eprintln!("{name}: {} of {}, {differing} differ", index + 1, plan.count);
-            shown = Instant::now();
-        }
+        progress.step(|| format!("{name}: {} of {}, {differing} differ", index + 1, plan.count));
     }
+    progress.wipe();
     println!("{name}: {tally}, {differing} differ");
     Ok(Some(differing))
 }

@@ -9,8 +9,10 @@ mod generate;
 mod note;
 mod picked;
 mod picked_forms;
+mod progress;
 mod record;
 mod refuse;
+mod scale;
 mod sheet;
 mod shim;
 mod taken;
@@ -32,6 +34,7 @@ oracle answer < cases
 oracle sheet < text
 oracle generate CALL|all COUNT SEED [--n-min N] [--n-max N]
 oracle compare CALL|all COUNT SEED [--n-min N] [--n-max N] [--sheet PROGRAM]
+oracle scale [SEED] [--each]
 oracle replay < cases
 oracle vectors CALL...|all [--classes] [--random N]";
 
@@ -48,6 +51,10 @@ fn main() -> ExitCode {
         ["compare", call, count, seed, ref options @ ..] => {
             plan(call, count, seed, options).and_then(|p| compare::run(&p))
         }
+        ["scale"] => scale::run(scale::SEED, false),
+        ["scale", "--each"] => scale::run(scale::SEED, true),
+        ["scale", seed] => number(seed).and_then(|seed| scale::run(seed, false)),
+        ["scale", seed, "--each"] => number(seed).and_then(|seed| scale::run(seed, true)),
         ["vectors", ref words @ ..] => write_vectors(words).map(|()| true),
         _ => Err(io::Error::other(USAGE)),
     };

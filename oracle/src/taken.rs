@@ -13,9 +13,13 @@ pub mod jacobi {
         pub fn apply_on_the_right_in_place(&self, (mut x, mut y): (ColMut<'_, T>, ColMut<'_, T>)) {
             assert!(x.nrows() == y.nrows());
             let (c, s) = (self.c.to_f64(), self.s.to_f64());
-            for i in 0..x.nrows() {
-                let (p, q) = arith::apply(c, s, x[i].to_f64(), y[i].to_f64());
-                (x[i], y[i]) = (T::from_f64(p), T::from_f64(q));
+            let turn = |x: &mut T, y: &mut T| {
+                let (p, q) = arith::apply(c, s, x.to_f64(), y.to_f64());
+                (*x, *y) = (T::from_f64(p), T::from_f64(q));
+            };
+            match (x.slice_mut(), y.slice_mut()) {
+                (Some(x), Some(y)) => x.iter_mut().zip(y).for_each(|(x, y)| turn(x, y)),
+                _ => (0..x.nrows()).for_each(|i| turn(&mut x[i], &mut y[i])),
             }
         }
     }

@@ -1,6 +1,3 @@
-// Small dense kernels by value, with no form: rotations, reflections, a 2-block made standard and
-// the small Sylvester solve.
+// Small dense kernels by value, with no form: rotations and reflections.
 pub mod householder;
 pub mod jacobi;
-pub mod lahqr_schur22;
-pub mod lasy2;

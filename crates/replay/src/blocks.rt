@@ -1,14 +1,14 @@
 // As `calls`, for standardising a 2-block and the small Sylvester solve.
 ghost use mathlib.Core.Path.{_≡_};
 ghost use lib.ListN.{length};
-ghost use Rattle.linalg.specs.View.{block, values};
+ghost use Rattle.schur22.specs.View.{block, values};
 ghost use Rattle.replay.specs.Lines as Lines;
-use linalg::lahqr_schur22::Block;
-use linalg::lahqr_schur22::Values;
 use replay_text::float::float_of;
 use replay_text::float::is_word;
 use replay_text::outcome::Outcome;
 use replay_text::outcome::judge;
+use schur22::lahqr_schur22::Block;
+use schur22::lahqr_schur22::Values;
 
 // The rows of four words, column after column.
 fn square(a: u64, c: u64, b: u64, d: u64) -> [[f64; 2]; 2]
@@ -52,9 +52,9 @@ pub fn lahqr_schur22(w: &[u64]) -> Outcome
     }
     let p = float_of(w[0]);
     let q = float_of(w[1]);
-    let s = linalg::lahqr_schur22::lahqr_schur22(p, q, float_of(w[2]), float_of(w[3]));
+    let s = schur22::lahqr_schur22::lahqr_schur22(p, q, float_of(w[2]), float_of(w[3]));
     let e = s.eigenvalues;
-    let v = linalg::lahqr_schur22::values_of(e);
+    let v = schur22::lahqr_schur22::values_of(e);
     let block = is_block(s.block, w);
     let values = is_values(v, w);
     judge(block & values)
@@ -70,7 +70,7 @@ pub fn lasy2(w: &[u64]) -> Outcome
     let tl = square(w[0], w[1], w[2], w[3]);
     let tr = square(w[4], w[5], w[6], w[7]);
     let b = square(w[8], w[9], w[10], w[11]);
-    let s = linalg::lasy2::lasy2(tl, tr, b);
+    let s = sylvester::lasy2::lasy2(tl, tr, b);
     let x00 = is_word(s.x00, w[12]);
     let x10 = is_word(s.x10, w[13]);
     let x01 = is_word(s.x01, w[14]);

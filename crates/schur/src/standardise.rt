@@ -3,7 +3,7 @@ ghost use mathlib.Core.Path.{_≡_};
 ghost use Prim.Native.Nat.{_+_, _≤_};
 ghost use lib.Ieee.{binary64};
 ghost use Rattle.model.specs.Swaps as Swaps;
-ghost use Rattle.linalg.specs.View.{block};
+ghost use Rattle.schur22.specs.View.{block};
 ghost use Rattle.schur.specs.Run.{Sized, Beside};
 ghost use Rattle.schur.specs.Done.{Done};
 ghost use Rattle.schur.specs.Forms.{standardForm};
@@ -12,8 +12,8 @@ use crate::operations::rotate_form;
 use crate::places::get;
 use crate::places::put;
 use linalg::jacobi::JacobiRotation;
-use linalg::lahqr_schur22::Block;
-use linalg::lahqr_schur22::lahqr_schur22;
+use schur22::lahqr_schur22::Block;
+use schur22::lahqr_schur22::lahqr_schur22;
 
 // The standard form of the block in rows j and j + 1.
 fn standard_block(t: &[f64], n: usize, j: usize) -> Block

@@ -5,7 +5,7 @@ ghost use Prim.Native.Nat.{_+_, _≤_};
 ghost use lib.Ieee.{binary64};
 ghost use Rattle.model.specs.Columns as Columns;
 ghost use Rattle.model.specs.Swaps as Swaps;
-ghost use Rattle.linalg.specs.View.{sylvester};
+ghost use Rattle.sylvester.specs.View.{sylvester};
 ghost use Rattle.schur.specs.View.{quad, reflection4, column, window};
 ghost use Rattle.schur.specs.Run.{Sized, Beside};
 ghost use Rattle.schur.specs.Done.{Done};
@@ -24,8 +24,8 @@ use arith::real::abs;
 use arith::real::fmax;
 use arith::real::recip;
 use linalg::householder::make_householder_in_place;
-use linalg::lasy2::Sylvester;
-use linalg::lasy2::lasy2;
+use sylvester::lasy2::Sylvester;
+use sylvester::lasy2::lasy2;
 
 // Rows j to j + 3 of a column.
 fn window_column(t: &[f64], n: usize, j: usize, col: usize) -> [f64; 4]

@@ -5,9 +5,9 @@ ghost use lib.ListN.{length};
 ghost use lib.Ieee.{binary64};
 ghost use Rattle.model.specs.Schur22 as Schur22;
 ghost use Rattle.volmeixi.specs.Blocks.{standardised, twoByTwo, lentLasy2};
-use linalg::lahqr_schur22::lahqr_schur22;
-use linalg::lahqr_schur22::values_of;
-use linalg::lasy2::lasy2;
+use schur22::lahqr_schur22::lahqr_schur22;
+use schur22::lahqr_schur22::values_of;
+use sylvester::lasy2::lasy2;
 
 // a, b, c, d, the real and the imaginary part of each value, cs and sn of the block of rows
 // (a, b) and (c, d), standardised.

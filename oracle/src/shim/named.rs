@@ -40,6 +40,17 @@ impl<T> Complex<T> {
     }
 }
 
+/// The rows of a form in their order, up to the most there can be.
+pub static ROWS: [usize; 64] = {
+    let mut rows = [0; 64];
+    let mut i = 0;
+    while i < rows.len() {
+        rows[i] = i;
+        i += 1;
+    }
+    rows
+};
+
 pub mod perm {
     use super::*;
 

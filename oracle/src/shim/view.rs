@@ -51,7 +51,7 @@ impl<T> Copy for Grid<T> {}
 
 impl<T> Grid<T> {
     fn at(&self, i: usize, j: usize) -> NonNull<T> {
-        assert!(i < self.rows && j < self.cols, "({i}, {j}) in {} by {}", self.rows, self.cols);
+        assert!(i < self.rows && j < self.cols);
         unsafe { self.first.add(i * self.down + j * self.across) }
     }
 
@@ -229,6 +229,11 @@ impl<'a, T> ColMut<'a, T> {
     pub fn split_at_row_mut(self, i: usize) -> (Self, Self) {
         let (upper, lower) = self.0.split_at_row_mut(i);
         (ColMut(upper), ColMut(lower))
+    }
+    /// The numbers as a slice, if they stand one after the other.
+    pub fn slice_mut(&mut self) -> Option<&mut [T]> {
+        let grid = self.0.grid;
+        (grid.down == 1).then(|| unsafe { core::slice::from_raw_parts_mut(grid.first.as_ptr(), grid.rows) })
     }
     pub fn at_mut(self, i: usize) -> &'a mut T {
         unsafe { self.0.grid.at(i, 0).as_mut() }

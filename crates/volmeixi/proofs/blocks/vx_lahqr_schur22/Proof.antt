@@ -28,7 +28,7 @@ slice-write-out-3 : tie.Need-slice-write-out-3
 slice-write-out-3 c = search needs
 
 slice-write-out-4 : tie.Need-slice-write-out-4
-slice-write-out-4 c = search needs
+slice-write-out-4 c = simp length-set (omega arith)
 
 slice-write-out-5 : tie.Need-slice-write-out-5
 slice-write-out-5 c = simp length-set (omega arith)

@@ -1,0 +1,91 @@
+//! Times the root beside the processor's instruction, and the modulus beside the Rust's and libm's.
+
+use crate::forms::between;
+use crate::report::{Report, nanoseconds, shown};
+use crate::rng::Rng;
+use crate::sides::*;
+use crate::speed::{Plan, SEED};
+use crate::table::Table;
+use crate::timing::Times;
+use std::hint::black_box;
+use std::time::{Duration, Instant};
+
+const COUNT: usize = 512;
+
+/// Many calls on numbers of many sizes, each by itself.
+fn each(numbers: &[(f64, f64)], out: &mut [f64], f: impl Fn(f64, f64) -> f64) -> Duration {
+    let start = Instant::now();
+    for ((p, q), out) in black_box(numbers).iter().zip(out.iter_mut()) {
+        *out = f(*p, *q);
+    }
+    let taken = start.elapsed();
+    black_box(out);
+    taken
+}
+
+/// The same, but each call waits for the result before it.
+fn in_turn(numbers: &[(f64, f64)], f: impl Fn(f64, f64) -> f64) -> Duration {
+    let start = Instant::now();
+    let mut last = 0.0;
+    for (p, q) in black_box(numbers) {
+        last = f(p + last * 1e-300, *q);
+    }
+    black_box(last);
+    start.elapsed()
+}
+
+pub fn arithmetic(plan: &Plan, report: &mut Report) -> Table {
+    let rng = &mut Rng::new(SEED, "numbers", 0);
+    let mut wide = || between(rng, 1.0, 2.0) * 2f64.powi(rng.between(-40, 40) as i32);
+    let numbers: Vec<(f64, f64)> = (0..COUNT).map(|_| (wide(), wide())).collect();
+    // One row of a pair alike in size, as in a rotation.
+    let rng = &mut Rng::new(SEED, "pairs", 0);
+    let alike: Vec<(f64, f64)> = (0..COUNT).map(|_| (between(rng, -2.0, 2.0), between(rng, -2.0, 2.0))).collect();
+    let mut out = vec![0.0; COUNT];
+
+    let mut table = Table::new(plan.markdown, &["", "beside", "ours, ns", "theirs, ns", "ours/theirs", "to reach"]);
+    let mut row = |name: &str, beside: &str, most: Option<f64>, run: &mut dyn FnMut(usize) -> Duration| {
+        if !plan.wants(&format!("{name} {beside}"), None) {
+            return;
+        }
+        let times = Times::take(2, COUNT, plan.budget, run);
+        let ratio = times.ratio(0, 1, plan.least);
+        table.add(vec![
+            name.to_string(),
+            beside.to_string(),
+            nanoseconds(times.nanoseconds(0)),
+            nanoseconds(times.nanoseconds(1)),
+            shown(ratio),
+            report.judged(most, &[beside], &[ratio]),
+        ]);
+    };
+    let ours = |x: f64, _: f64| our_sqrt(x);
+    row("sqrt, each by itself", "the instruction behind a call", Some(6.0), &mut |k| match k {
+        0 => each(&numbers, &mut out, ours),
+        _ => each(&numbers, &mut out, |x, _| black_box(called_sqrt as extern "C" fn(f64) -> f64)(x)),
+    });
+    row("sqrt, each by itself", "the bare instruction", Some(6.0), &mut |k| match k {
+        0 => each(&numbers, &mut out, ours),
+        _ => each(&numbers, &mut out, |x, _| hardware_sqrt(x)),
+    });
+    row("sqrt, each after the last", "the bare instruction", Some(6.0), &mut |k| match k {
+        0 => in_turn(&numbers, ours),
+        _ => in_turn(&numbers, |x, _| hardware_sqrt(x)),
+    });
+    for (numbers, sort) in [(&numbers, "any sizes"), (&alike, "like sizes")] {
+        let name = format!("hypot, each by itself, {sort}");
+        row(&name, "the Rust helper", None, &mut |k| match k {
+            0 => each(numbers, &mut out, our_hypot),
+            _ => each(numbers, &mut out, |p, q| rust_hypot(p, q)),
+        });
+        row(&name, "libm", None, &mut |k| match k {
+            0 => each(numbers, &mut out, our_hypot),
+            _ => each(numbers, &mut out, f64::hypot),
+        });
+    }
+    row("hypot, each after the last, like sizes", "the Rust helper", None, &mut |k| match k {
+        0 => in_turn(&alike, our_hypot),
+        _ => in_turn(&alike, |p, q| rust_hypot(p, q)),
+    });
+    table
+}

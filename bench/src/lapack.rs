@@ -1,0 +1,131 @@
+//! A LAPACK opened while the program runs, so that two of them can be timed in one process.
+
+use std::ffi::{CStr, CString, c_char, c_int, c_void};
+use std::mem::MaybeUninit;
+
+type Int<'a> = &'a c_int;
+type Dtrexc = unsafe extern "C" fn(
+    compq: *const c_char,
+    n: Int,
+    t: *mut f64,
+    ldt: Int,
+    q: *mut f64,
+    ldq: Int,
+    ifst: &mut c_int,
+    ilst: &mut c_int,
+    work: *mut f64,
+    info: &mut c_int,
+    len: usize,
+);
+type Dtrevc3 = unsafe extern "C" fn(
+    side: *const c_char,
+    howmny: *const c_char,
+    select: *mut c_int,
+    n: Int,
+    t: *const f64,
+    ldt: Int,
+    vl: *mut f64,
+    ldvl: Int,
+    vr: *mut f64,
+    ldvr: Int,
+    mm: Int,
+    m: &mut c_int,
+    work: *mut f64,
+    lwork: Int,
+    info: &mut c_int,
+    len: usize,
+    len2: usize,
+);
+unsafe extern "C" {
+    fn dlopen(path: *const c_char, flags: c_int) -> *mut c_void;
+    fn dlsym(library: *mut c_void, name: *const c_char) -> *mut c_void;
+    fn dlerror() -> *const c_char;
+}
+/// Everything is bound at once, and first within the library itself (RTLD_NOW | RTLD_DEEPBIND).
+const FLAGS: c_int = 2 | 8;
+
+#[derive(Clone, Copy)]
+pub struct Lapack {
+    dtrexc: Dtrexc,
+    dtrevc3: Dtrevc3,
+}
+
+const MOST: usize = 64;
+
+impl Lapack {
+    /// Opens the files in their order; the last has LAPACK's routines, those before it what it needs.
+    pub fn open(paths: &str) -> Result<Lapack, String> {
+        let mut library = std::ptr::null_mut();
+        for path in paths.split(':') {
+            let name = CString::new(path).map_err(|e| e.to_string())?;
+            library = unsafe { dlopen(name.as_ptr(), FLAGS) };
+            if library.is_null() {
+                return Err(unsafe { CStr::from_ptr(dlerror()) }.to_string_lossy().into_owned());
+            }
+        }
+        let find = |name: &CStr| match unsafe { dlsym(library, name.as_ptr()) } {
+            place if place.is_null() => Err(format!("{paths} has no {}", name.to_string_lossy())),
+            place => Ok(place),
+        };
+        // The two types above are LAPACK's own.
+        unsafe {
+            Ok(Lapack {
+                dtrexc: std::mem::transmute::<*mut c_void, Dtrexc>(find(c"dtrexc_")?),
+                dtrevc3: std::mem::transmute::<*mut c_void, Dtrevc3>(find(c"dtrevc3_")?),
+            })
+        }
+    }
+
+    /// A move; hands back INFO. Rows count from 0. LAPACK only writes to its work space first, so it is
+    /// not filled here, which would be timed too.
+    pub fn reorder(&self, n: usize, t: &mut [f64], u: &mut [f64], from: usize, to: usize) -> c_int {
+        let mut work = MaybeUninit::<[f64; MOST]>::uninit();
+        let (size, mut ifst, mut ilst, mut info) = (n as c_int, from as c_int + 1, to as c_int + 1, 0);
+        let wanted = if u.is_empty() { c"N" } else { c"V" };
+        unsafe {
+            (self.dtrexc)(
+                wanted.as_ptr(),
+                &size,
+                t.as_mut_ptr(),
+                &size,
+                u.as_mut_ptr(),
+                &size,
+                &mut ifst,
+                &mut ilst,
+                work.as_mut_ptr().cast(),
+                &mut info,
+                1,
+            );
+        }
+        info
+    }
+
+    /// The vectors by dtrevc3, the routine that LAPACK's own drivers call.
+    pub fn vectors(&self, n: usize, t: &[f64], v: &mut [f64]) -> c_int {
+        let mut work = MaybeUninit::<[f64; 3 * MOST]>::uninit();
+        let mut select = MaybeUninit::<[c_int; MOST]>::uninit();
+        let (size, lwork, mut m, mut info, mut none) = (n as c_int, 3 * n as c_int, 0, 0, [0.0]);
+        unsafe {
+            (self.dtrevc3)(
+                c"R".as_ptr(),
+                c"A".as_ptr(),
+                select.as_mut_ptr().cast(),
+                &size,
+                t.as_ptr(),
+                &size,
+                none.as_mut_ptr(),
+                &1,
+                v.as_mut_ptr(),
+                &size,
+                &size,
+                &mut m,
+                work.as_mut_ptr().cast(),
+                &lwork,
+                &mut info,
+                1,
+                1,
+            );
+        }
+        info
+    }
+}

@@ -1,0 +1,2 @@
+// The small Sylvester solve, by value.
+pub mod lasy2;
