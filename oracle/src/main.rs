@@ -8,6 +8,7 @@ mod compare;
 mod generate;
 mod note;
 mod picked;
+mod picked_forms;
 mod progress;
 mod record;
 mod refuse;

@@ -1,8 +1,9 @@
 //! Cases of stored vectors that are chosen one by one, not drawn.
 
+use crate::picked_forms;
 use crate::record::Record;
 
-const ODD: [f64; 3] = [f64::NAN, f64::INFINITY, f64::NEG_INFINITY];
+pub const ODD: [f64; 3] = [f64::NAN, f64::INFINITY, f64::NEG_INFINITY];
 const ENTRIES: [f64; 9] = [0.0, -0.0, 5e-324, -5e-324, 1.0, -1.0, f64::MAX, f64::INFINITY, f64::NAN];
 
 /// The cases of a call; of most, none.
@@ -10,7 +11,7 @@ pub fn picked(call: &'static str) -> Vec<Record> {
     match call {
         "lahqr_schur22" => blocks().into_iter().map(|b| standardise(call, b)).collect(),
         "lasy2" => systems().into_iter().map(|s| solve(call, s)).collect(),
-        _ => Vec::new(),
+        _ => picked_forms::picked(call),
     }
 }
 

@@ -2,7 +2,7 @@
 //! number a word of 16 hexadecimal digits, single spaces between, the given numbers first and the
 //! expected ones after them, always the same count for a call. README.md lists the words.
 
-use crate::calls;
+use crate::calls::{self, EXCHANGED, MOVED};
 use crate::generate::floats::{EDGES, PATTERNS};
 use crate::generate::{self, USUAL};
 use crate::picked::picked;
@@ -27,11 +27,17 @@ const STORED: &[(&str, u64)] = &[
     ("make_householder_in_place", 300),
     ("lahqr_schur22", 400),
     ("lasy2", 400),
+    ("schur_swap", 60),
+    ("reorder_schur", 60),
+    ("block_values", 60),
+    ("evd_from_real_schur", 60),
+    ("column", 60),
 ];
 
 const SEED: u64 = 1;
 const NORM_PLACES: usize = 6;
 const TAIL_PLACES: usize = 5;
+const LONGEST: usize = (USUAL.most + 1) * (USUAL.most + 1);
 
 /// How many vectors to write.
 pub struct Extent {
@@ -98,10 +104,14 @@ fn cases(name: &str, random: u64, extent: &Extent) -> Vec<Record> {
     cases
 }
 
-/// The stored lines have no buffer of results, and lasy2's lists are of four words.
+/// The stored lines have no buffer of results, lasy2's lists are of four words, and no list is
+/// longer than one row more than the usual makes it.
 fn storable(case: &Record) -> bool {
     let lists = ["tl", "tr", "b"];
-    case.find("out").is_none() && (case.call != "lasy2" || lists.iter().all(|key| case.l(key).len() == 4))
+    let short = |value: &Value| if let Value::List(list) = value { list.len() <= LONGEST } else { true };
+    case.find("out").is_none()
+        && (case.call != "lasy2" || lists.iter().all(|key| case.l(key).len() == 4))
+        && case.fields.iter().all(|(_, value)| short(value))
 }
 
 fn pairs(name: &'static str, extent: &Extent, case: impl Fn(Record, f64, f64) -> Record) -> Vec<Record> {
@@ -117,6 +127,11 @@ fn words(case: &Record) -> Vec<u64> {
             [vec![case.l("x").len() as u64], padded(case.l("x"), NORM_PLACES), vec![answer.f("r").to_bits()]].concat()
         }
         "make_householder_in_place" => reflection(case, &answer),
+        "schur_swap" => on_buffers(case, &answer, &["t", "u"], &["n", "j0", "n1", "n2"], EXCHANGED),
+        "reorder_schur" => on_buffers(case, &answer, &["t", "u"], &["n", "from", "to"], MOVED),
+        "block_values" => on_buffers(case, &answer, &["t", "re", "im"], &["n"], &[]),
+        "evd_from_real_schur" => on_buffers(case, &answer, &["t", "v"], &["n"], &[]),
+        "column" => on_buffers(case, &answer, &["v"], &["n", "col"], &[]),
         "lasy2" => ["tl", "tr", "b"].iter().flat_map(|key| bits(case.l(key))).chain(floats(&answer)).collect(),
         _ => floats(case).chain(floats(&answer)).collect(),
     }
@@ -133,6 +148,22 @@ fn bits(list: &[f64]) -> impl Iterator<Item = u64> {
 fn padded(list: &[f64], places: usize) -> Vec<u64> {
     let mut words: Vec<u64> = list.iter().map(|x| x.to_bits()).collect();
     words.resize(places, 0);
+    words
+}
+
+/// The lengths of the buffers, the numbers and the buffers; then the answer, its counts (zero words
+/// if it is turned away) and those buffers that the call may change, or the part that it hands back.
+fn on_buffers(case: &Record, answer: &Record, buffers: &[&str], numbers: &[&str], counts: &[&str]) -> Vec<u64> {
+    let mut words: Vec<u64> = buffers.iter().map(|key| case.l(key).len() as u64).collect();
+    words.extend(numbers.iter().map(|key| case.n(key) as u64));
+    words.extend(buffers.iter().flat_map(|key| bits(case.l(key))));
+    let told = ["answer"].iter().filter(|key| answer.find(key).is_some()).chain(counts);
+    words.extend(told.map(|key| answer.find(key).map_or(0, |_| answer.n(key) as u64)));
+    for (_, value) in &answer.fields {
+        if let Value::List(list) = value {
+            words.extend(bits(list));
+        }
+    }
     words
 }
 

@@ -1,7 +1,7 @@
 -- What a line of each call shows, by the call's definition in model. Definitions only. Assumes nothing.
 use Prim.Native.Nat.{ℕ, _+_}
-use mathlib.Core.Bool.{Bool, cond, _&&_}
-use mathlib.Core.List.{List, [], _∷_, _++_, map}
+use mathlib.Core.Bool.{Bool, _&&_}
+use mathlib.Core.List.{List, [], _∷_, _++_}
 use lib.Dec.{eqb, leb}
 use lib.ListN.{length, getD, take, drop}
 use lib.Ieee.{Float, binary64, ofBits}
@@ -12,20 +12,12 @@ use Rattle.model.specs.Householder as Householder
 use Rattle.model.specs.Schur22 as Schur22
 use Rattle.model.specs.Lasy2 as Lasy2
 use Rattle.replay_text.specs.Float.{isWord, areWords}
-use Rattle.replay.specs.declared.calls.Outcome.{Outcome}
-use Rattle.replay.specs.declared.calls.Outcome.the-variants as Outcome
-
--- of a line that has the call's words or not, and whose results are the expected ones or not
-abbrev pub judged : Bool → Bool → Outcome
-judged shape same = cond shape (cond same Outcome.Same Outcome.Differs) Outcome.Malformed
+use Rattle.replay_text.specs.Shown.{judged, from}
+use Rattle.replay_text.specs.declared.outcome.Outcome.{Outcome}
 
 -- the number of word i
 abbrev pub at : List ℕ → ℕ → Float
 at w i = ofBits binary64 (getD w i 0)
-
--- the numbers of k words from word i on
-abbrev pub from : List ℕ → ℕ → ℕ → List Float
-from w i k = map (ofBits binary64) (take k (drop i w))
 
 -- x is the number of word i
 abbrev pub is : List ℕ → ℕ → Float → Bool

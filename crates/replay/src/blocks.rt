@@ -3,10 +3,10 @@ ghost use mathlib.Core.Path.{_≡_};
 ghost use lib.ListN.{length};
 ghost use Rattle.schur22.specs.View.{block, values};
 ghost use Rattle.replay.specs.Lines as Lines;
-use crate::calls::Outcome;
-use crate::calls::judge;
 use replay_text::float::float_of;
 use replay_text::float::is_word;
+use replay_text::outcome::Outcome;
+use replay_text::outcome::judge;
 use schur22::lahqr_schur22::Block;
 use schur22::lahqr_schur22::Values;
 

@@ -1,31 +1,14 @@
 // One function for each call: it takes a line's words without the index, makes the call with the
 // given ones and compares what it gives with the rest. oracle/README.md lists the words.
 ghost use mathlib.Core.Path.{_≡_};
-ghost use mathlib.Core.Bool.{cond};
 ghost use Rattle.replay.specs.Lines as Lines;
 use linalg::jacobi::JacobiRotation;
 use replay_text::float::are_words;
 use replay_text::float::float_of;
 use replay_text::float::floats_of;
 use replay_text::float::is_word;
-
-// What a line shows: the call gives what is expected, or something else, or this is no line of
-// the call.
-pub enum Outcome {
-    Same,
-    Differs,
-    Malformed,
-}
-
-pub fn judge(same: bool) -> Outcome
-    ensures { λ r. ⌜ r ≡ cond same Outcome.Same Outcome.Differs ⌝ }
-{
-    if same {
-        Outcome::Same
-    } else {
-        Outcome::Differs
-    }
-}
+use replay_text::outcome::Outcome;
+use replay_text::outcome::judge;
 
 // x; r.
 pub fn abs(w: &[u64]) -> Outcome

@@ -1,11 +1,11 @@
 // One line: its name is looked up, its words are read, the call is made, and the outcome counted.
 ghost use Prim.Native.Nat.{_<_, _≤_};
 ghost use lib.ListN.{length};
-use crate::calls::Outcome;
 use crate::table;
 use crate::table::CALLS;
 use crate::table::ROWS;
 use libc::STDOUT_FILENO;
+use replay_text::outcome::Outcome;
 use replay_text::word::Found;
 
 // How many bytes stand before the first space.

@@ -3,13 +3,15 @@
 ghost use Prim.Native.Nat.{_<_};
 use crate::blocks;
 use crate::calls;
-use crate::calls::Outcome;
+use replay_forms::moves;
+use replay_forms::vectors;
+use replay_text::outcome::Outcome;
 
 // How many calls there are. It is also the number of what is no call.
-pub const CALLS: usize = 16;
+pub const CALLS: usize = 21;
 
 // The rows of the counts: one of each call, and one of what is no call.
-pub const ROWS: usize = 17;
+pub const ROWS: usize = 22;
 
 // The name of a call, with spaces after it; what is no call has none.
 pub fn name_of(call: usize) -> [u8; 28] {
@@ -30,6 +32,11 @@ pub fn name_of(call: usize) -> [u8; 28] {
         13 => *b"make_householder_in_place   ",
         14 => *b"lahqr_schur22               ",
         15 => *b"lasy2                       ",
+        16 => *b"schur_swap                  ",
+        17 => *b"reorder_schur               ",
+        18 => *b"block_values                ",
+        19 => *b"evd_from_real_schur         ",
+        20 => *b"column                      ",
         _ => [b' '; 28],
     }
 }
@@ -53,6 +60,11 @@ pub fn run(call: usize, w: &[u64]) -> Outcome {
         13 => calls::make_householder_in_place(w),
         14 => blocks::lahqr_schur22(w),
         15 => blocks::lasy2(w),
+        16 => moves::schur_swap(w),
+        17 => moves::reorder_schur(w),
+        18 => vectors::block_values(w),
+        19 => vectors::evd_from_real_schur(w),
+        20 => vectors::column(w),
         _ => Outcome::Malformed,
     }
 }

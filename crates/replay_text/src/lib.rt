@@ -1,4 +1,5 @@
 // The text of stored vectors. A line is a call's name and then words, each after one space: 16
 // lowercase hexadecimal digits, the bits of an f64 or a whole number.
 pub mod float;
+pub mod outcome;
 pub mod word;

@@ -1,0 +1,128 @@
+-- `replay_forms::moves::same_move` meets its contract. Assumes nothing.
+use borrow.Author.Needs.{needs}
+use Rattle.replay_forms.specs.Lines.{sameMove}
+use Rattle.replay_forms.proofs.moves.same_move.Statement.{statement}
+use Rattle.replay_forms.proofs.moves.same_move.Tie as tie
+
+fill-requires : tie.Need-fill-requires
+fill-requires c κs = search needs
+
+add-fill : tie.Need-add-fill
+add-fill c = search needs
+
+fill-requires-2 : tie.Need-fill-requires-2
+fill-requires-2 c κs = search needs
+
+shared-slice-read-n : tie.Need-shared-slice-read-n
+shared-slice-read-n c = search needs
+
+shared-slice-read-from : tie.Need-shared-slice-read-from
+shared-slice-read-from c = search needs
+
+shared-slice-read-to : tie.Need-shared-slice-read-to
+shared-slice-read-to c = search needs
+
+reorder-schur-requires : tie.Need-reorder-schur-requires
+reorder-schur-requires c κs = search needs
+
+add-e : tie.Need-add-e
+add-e c = search needs
+
+add-e-2 : tie.Need-add-e-2
+add-e-2 c = search needs
+
+mul-answer : tie.Need-mul-answer
+mul-answer c = search needs
+
+shared-slice-read-answer : tie.Need-shared-slice-read-answer
+shared-slice-read-answer c = search needs
+
+add-landed : tie.Need-add-landed
+add-landed c = search needs
+
+mul-landed : tie.Need-mul-landed
+mul-landed c = search needs
+
+shared-slice-read-landed : tie.Need-shared-slice-read-landed
+shared-slice-read-landed c = search needs
+
+add-swaps : tie.Need-add-swaps
+add-swaps c = search needs
+
+mul-swaps : tie.Need-mul-swaps
+mul-swaps c = search needs
+
+shared-slice-read-swaps : tie.Need-shared-slice-read-swaps
+shared-slice-read-swaps c = search needs
+
+add-declined : tie.Need-add-declined
+add-declined c = search needs
+
+mul-declined : tie.Need-mul-declined
+mul-declined c = search needs
+
+shared-slice-read-declined : tie.Need-shared-slice-read-declined
+shared-slice-read-declined c = search needs
+
+add-are : tie.Need-add-are
+add-are c = search needs
+
+are-requires : tie.Need-are-requires
+are-requires c κs = search needs
+
+add-are-2 : tie.Need-add-are-2
+add-are-2 c = search needs
+
+add-are-3 : tie.Need-add-are-3
+add-are-3 c = search needs
+
+are-requires-2 : tie.Need-are-requires-2
+are-requires-2 c κs = search needs
+
+same-length : tie.Need-same-length
+same-length c = search needs
+
+same-length-2 : tie.Need-same-length-2
+same-length-2 c = search needs
+
+returns : tie.Need-returns
+unfolding sameMove
+returns c =
+    let c1 = c .before .before in
+    let c2 = c1 .before .before .before .before .before .before .before .before .before .before in
+    let c3 = c2 .before .before .before .before .before .before .before .before in
+    let c4 = c3 .before .before .before .before in
+    rw (c .are2 .ensures, c1 .are .ensures, ← c4 .fill .ensures, ← c3 .fill2 .ensures, ← c2 .reorder-schur .ensures)
+
+pub same-move-spec : {M : Type 1} → statement M
+same-move-spec =
+    tie.close
+    (tie.spec
+    fill-requires
+    add-fill
+    fill-requires-2
+    shared-slice-read-n
+    shared-slice-read-from
+    shared-slice-read-to
+    reorder-schur-requires
+    add-e
+    add-e-2
+    mul-answer
+    shared-slice-read-answer
+    add-landed
+    mul-landed
+    shared-slice-read-landed
+    add-swaps
+    mul-swaps
+    shared-slice-read-swaps
+    add-declined
+    mul-declined
+    shared-slice-read-declined
+    add-are
+    are-requires
+    add-are-2
+    add-are-3
+    are-requires-2
+    same-length
+    same-length-2
+    returns)

@@ -1,0 +1,71 @@
+-- `replay_forms::vectors::same_vectors` meets its contract. Assumes nothing.
+use Rattle.replay_forms.specs.Lines.{sameVectors}
+use borrow.Author.Needs.{needs}
+use Rattle.replay_forms.proofs.vectors.same_vectors.Statement.{statement}
+use Rattle.replay_forms.proofs.vectors.same_vectors.Tie as tie
+
+fill-requires : tie.Need-fill-requires
+fill-requires c κs = search needs
+
+add-fill : tie.Need-add-fill
+add-fill c = search needs
+
+fill-requires-2 : tie.Need-fill-requires-2
+fill-requires-2 c κs = search needs
+
+shared-slice-read-n : tie.Need-shared-slice-read-n
+shared-slice-read-n c = search needs
+
+evd-from-real-schur-requires : tie.Need-evd-from-real-schur-requires
+evd-from-real-schur-requires c κs = search needs
+
+add-e : tie.Need-add-e
+add-e c = search needs
+
+add-e-2 : tie.Need-add-e-2
+add-e-2 c = search needs
+
+mul-answer : tie.Need-mul-answer
+mul-answer c = search needs
+
+shared-slice-read-answer : tie.Need-shared-slice-read-answer
+shared-slice-read-answer c = search needs
+
+add-are : tie.Need-add-are
+add-are c = search needs
+
+are-requires : tie.Need-are-requires
+are-requires c κs = search needs
+
+same-length : tie.Need-same-length
+same-length c = search needs
+
+same-length-2 : tie.Need-same-length-2
+same-length-2 c = search needs
+
+returns : tie.Need-returns
+unfolding sameVectors
+returns c =
+    let c1 = c .before .before .before .before .before in
+    let c2 = c1 .before .before .before .before .before .before in
+    let c3 = c2 .before .before .before .before in
+    rw (c .are .ensures, ← c3 .fill .ensures, ← c2 .fill2 .ensures, ← c1 .evd-from-real-schur .ensures)
+
+pub same-vectors-spec : {M : Type 1} → statement M
+same-vectors-spec =
+    tie.close
+    (tie.spec
+    fill-requires
+    add-fill
+    fill-requires-2
+    shared-slice-read-n
+    evd-from-real-schur-requires
+    add-e
+    add-e-2
+    mul-answer
+    shared-slice-read-answer
+    add-are
+    are-requires
+    same-length
+    same-length-2
+    returns)

@@ -1,0 +1,79 @@
+-- What a line of each call on forms shows, by the call's definition in model. Definitions only. Assumes nothing.
+use Prim.Native.Nat.{ℕ, _+_, _*_}
+use mathlib.Core.Bool.{Bool, _&&_}
+use mathlib.Core.List.{List}
+use lib.Dec.{eqb, leb}
+use lib.ListN.{length, getD, take, drop}
+use lib.Ieee.{Float, binary64}
+use Rattle.model.specs.Move as Move
+use Rattle.model.specs.Exchange as Exchange
+use Rattle.model.specs.Vectors as Vectors
+use Rattle.model.specs.Values as Values
+use Rattle.replay_text.specs.Float.{areWords}
+use Rattle.replay_text.specs.Shown.{judged, from}
+use Rattle.replay_text.specs.declared.outcome.Outcome.{Outcome}
+
+-- word i is the number x
+abbrev pub is : List ℕ → ℕ → ℕ → Bool
+is w i x = eqb x (getD w i 0)
+
+-- the k words from word i on are those of the numbers x
+abbrev pub are : List ℕ → ℕ → ℕ → List Float → Bool
+are w i k x = areWords x (take k (drop i w))
+
+-- so many words are `rest` and buffers of no more than 65 rows: one of `once` numbers that is given, and two of a and b numbers that are given and expected
+unfoldable pub fits : ℕ → ℕ → ℕ → ℕ → ℕ → Bool
+fits words rest once a b = leb once 4225 && leb a 4225 && leb b 4225 && eqb words (rest + once + 2 * (a + b))
+
+-- a move with a form of a numbers and a factor of b gives what is expected
+unfoldable pub sameMove : List ℕ → ℕ → ℕ → Bool
+sameMove w a b =
+    let n = getD w 2 0 in
+    let r = Move.moveCall binary64 n n (from w 5 a) (from w (5 + a) b) (getD w 3 0) (getD w 4 0) in
+    let e = 5 + a + b in
+    is w e (r .answer) && is w (e + 1) (r .landed) && is w (e + 2) (r .swaps) && is w (e + 3) (r .declined)
+    && are w (e + 4) a (r .form) && are w (e + 4 + a) b (r .factor)
+
+abbrev pub reorderSchur : List ℕ → Outcome
+reorderSchur w = let a = getD w 0 0 in let b = getD w 1 0 in judged (fits (length w) 9 0 a b) (sameMove w a b)
+
+-- an exchange, likewise
+unfoldable pub sameExchange : List ℕ → ℕ → ℕ → Bool
+sameExchange w a b =
+    let n = getD w 2 0 in
+    let r = Exchange.exchangeCall binary64 n n (from w 6 a) (from w (6 + a) b) (getD w 3 0) (getD w 4 0) (getD w 5 0) in
+    let e = 6 + a + b in
+    is w e (r .answer) && is w (e + 1) (r .swaps) && is w (e + 2) (r .declined)
+    && are w (e + 3) a (r .form) && are w (e + 3 + a) b (r .factor)
+
+abbrev pub schurSwap : List ℕ → Outcome
+schurSwap w = let a = getD w 0 0 in let b = getD w 1 0 in judged (fits (length w) 9 0 a b) (sameExchange w a b)
+
+-- a form of a numbers and b lent for its vectors
+unfoldable pub sameVectors : List ℕ → ℕ → ℕ → Bool
+sameVectors w a b =
+    let n = getD w 2 0 in
+    let r = Vectors.evdFromRealSchur binary64 n n (from w 3 a) (from w (3 + a) b) in
+    let e = 3 + a + b in
+    is w e (r .answer) && are w (e + 1) b (r .v)
+
+abbrev pub evdFromRealSchur : List ℕ → Outcome
+evdFromRealSchur w = let a = getD w 0 0 in let b = getD w 1 0 in judged (fits (length w) 4 a b 0) (sameVectors w a b)
+
+-- a form of a numbers, and b and k lent for the parts of its values
+unfoldable pub sameValues : List ℕ → ℕ → ℕ → ℕ → Bool
+sameValues w a b k =
+    let n = getD w 3 0 in
+    let r = Values.blockValues binary64 n n (from w 4 a) (record { re = from w (4 + a) b; im = from w (4 + a + b) k }) in
+    let e = 4 + a + b + k in
+    is w e (r .answer) && are w (e + 1) b (r .parts .re) && are w (e + 1 + b) k (r .parts .im)
+
+abbrev pub blockValues : List ℕ → Outcome
+blockValues w = let a = getD w 0 0 in let b = getD w 1 0 in let k = getD w 2 0 in judged (fits (length w) 5 a b k) (sameValues w a b k)
+
+-- vectors of a numbers, and the rest of the line is the part, of length 0 where it is refused
+unfoldable pub sameColumn : List ℕ → ℕ → Bool
+sameColumn w a = let n = getD w 1 0 in areWords (Vectors.columnOf n n (from w 3 a) (getD w 2 0)) (drop (3 + a) w)
+
+abbrev pub column : List ℕ → Outcome
+column w = let a = getD w 0 0 in judged (leb a 4225 && leb (3 + a) (length w)) (sameColumn w a)

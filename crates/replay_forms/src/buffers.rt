@@ -1,0 +1,51 @@
+// Buffers of numbers, filled from the words of a line and compared with them.
+ghost use mathlib.Core.Path.{_≡_};
+ghost use Prim.Native.Nat.{_+_, _≤_};
+ghost use lib.ListN.{length};
+ghost use Rattle.replay_text.specs.Shown.{from};
+ghost use Rattle.replay_forms.specs.Lines as Lines;
+use replay_text::float::are_words;
+use replay_text::float::floats_of;
+
+// Room for a form of 65 rows, one more than a call takes.
+pub fn room() -> [f64; 4225]
+    ensures { λ r. ⌜ 4225 ≡ length r ⌝ }
+{
+    [0.0; 4225]
+}
+
+// Whether so many words are `rest` and buffers of no more than 65 rows: one of `once` numbers that
+// is given, and two of a and b numbers that are given and expected.
+pub fn fits(words: usize, rest: usize, once: usize, a: usize, b: usize) -> bool
+    requires { ⌜ rest ≤ 9 ⌝ }
+    ensures { λ r. ⌜ r ≡ Lines.fits words rest once a b ⌝ }
+{
+    if once > 4225 {
+        return false;
+    }
+    if a > 4225 {
+        return false;
+    }
+    if b > 4225 {
+        return false;
+    }
+    words == rest + once + 2 * (a + b)
+}
+
+// The numbers of the words from word i on, as many as x has places.
+pub fn fill(x: &mut [f64], w: &[u64], i: usize)
+    requires { ⌜ i + length (now x) ≤ length (now w) ⌝ }
+    ensures { λ _. ⌜ now (x .exit) ≡ from (now (w .entry)) i (length (now (x .entry))) ⌝ }
+{
+    let end = i + x.len();
+    floats_of(&w[i..end], x);
+}
+
+// Whether the numbers x are those of the k words from word i on.
+pub fn are(w: &[u64], i: usize, k: usize, x: &[f64]) -> bool
+    requires { ⌜ i + k ≤ length (now w) ⌝ }
+    ensures { λ r. ⌜ r ≡ Lines.are (now (w .entry)) i k (now (x .entry)) ⌝ }
+{
+    let end = i + k;
+    are_words(x, &w[i..end])
+}

@@ -1,0 +1,92 @@
+// Lines of a move and of an exchange: the two lengths, the numbers, form and factor as they are
+// given; the numbers of the answer, form and factor as they are expected.
+ghost use mathlib.Core.Path.{_≡_};
+ghost use Prim.Native.Nat.{_+_, _*_, _≤_};
+ghost use lib.ListN.{length};
+ghost use Rattle.replay_forms.specs.Lines as Lines;
+use crate::buffers::are;
+use crate::buffers::fill;
+use crate::buffers::fits;
+use crate::buffers::room;
+use replay_text::outcome::Outcome;
+use replay_text::outcome::judge;
+
+// The move of a line, in a form and a factor of the right lengths.
+fn same_move(w: &[u64], t: &mut [f64], u: &mut [f64]) -> bool
+    requires { ⌜ (length (now t) ≤ 4225) × (length (now u) ≤ 4225) × (length (now w) ≡ 9 + 2 * (length (now t) + length (now u))) ⌝ }
+    ensures { λ r. ⌜ r ≡ Lines.sameMove (now (w .entry)) (length (now (t .entry))) (length (now (u .entry))) ⌝ }
+{
+    let a = t.len();
+    let b = u.len();
+    fill(&mut *t, w, 5);
+    fill(&mut *u, w, 5 + a);
+    let n = w[2] as usize;
+    let from = w[3] as usize;
+    let to = w[4] as usize;
+    let r = schur::reorder::reorder_schur(n, &mut *t, &mut *u, from, to);
+    let e = 5 + a + b;
+    let answer = r.answer as u64 == w[e];
+    let landed = r.landed as u64 == w[e + 1];
+    let swaps = r.swaps as u64 == w[e + 2];
+    let declined = r.declined as u64 == w[e + 3];
+    let form = are(w, e + 4, a, &*t);
+    let factor = are(w, e + 4 + a, b, &*u);
+    answer & landed & swaps & declined & form & factor
+}
+
+// Two lengths, n from to, form, factor; answer landed swaps declined, form, factor.
+pub fn reorder_schur(w: &[u64]) -> Outcome
+    ensures { λ r. ⌜ r ≡ Lines.reorderSchur (now (w .entry)) ⌝ }
+{
+    if w.len() < 9 {
+        return Outcome::Malformed;
+    }
+    let a = w[0] as usize;
+    let b = w[1] as usize;
+    if !fits(w.len(), 9, 0, a, b) {
+        return Outcome::Malformed;
+    }
+    let mut t = room();
+    let mut u = room();
+    judge(same_move(w, &mut t[..a], &mut u[..b]))
+}
+
+// The exchange of a line, in a form and a factor of the right lengths.
+fn same_exchange(w: &[u64], t: &mut [f64], u: &mut [f64]) -> bool
+    requires { ⌜ (length (now t) ≤ 4225) × (length (now u) ≤ 4225) × (length (now w) ≡ 9 + 2 * (length (now t) + length (now u))) ⌝ }
+    ensures { λ r. ⌜ r ≡ Lines.sameExchange (now (w .entry)) (length (now (t .entry))) (length (now (u .entry))) ⌝ }
+{
+    let a = t.len();
+    let b = u.len();
+    fill(&mut *t, w, 6);
+    fill(&mut *u, w, 6 + a);
+    let n = w[2] as usize;
+    let j0 = w[3] as usize;
+    let n1 = w[4] as usize;
+    let n2 = w[5] as usize;
+    let r = schur::swap::schur_swap(n, &mut *t, &mut *u, j0, n1, n2);
+    let e = 6 + a + b;
+    let answer = r.answer as u64 == w[e];
+    let swaps = r.swaps as u64 == w[e + 1];
+    let declined = r.declined as u64 == w[e + 2];
+    let form = are(w, e + 3, a, &*t);
+    let factor = are(w, e + 3 + a, b, &*u);
+    answer & swaps & declined & form & factor
+}
+
+// Two lengths, n j0 n1 n2, form, factor; answer swaps declined, form, factor.
+pub fn schur_swap(w: &[u64]) -> Outcome
+    ensures { λ r. ⌜ r ≡ Lines.schurSwap (now (w .entry)) ⌝ }
+{
+    if w.len() < 9 {
+        return Outcome::Malformed;
+    }
+    let a = w[0] as usize;
+    let b = w[1] as usize;
+    if !fits(w.len(), 9, 0, a, b) {
+        return Outcome::Malformed;
+    }
+    let mut t = room();
+    let mut u = room();
+    judge(same_exchange(w, &mut t[..a], &mut u[..b]))
+}
