@@ -10,7 +10,8 @@ use lib.ListN.{length}
 use lib.Ieee.{Float, Format, binary64}
 use borrow.Author.Tests.{eqb-true}
 use Rattle.model.specs.Form.{zeroBelow}
-use Rattle.model.specs.Swaps.{Change, unchanged, andThen, swapOf, standardise}
+use Rattle.model.specs.Columns.{onFactor}
+use Rattle.model.specs.Swaps.{Change, unchanged, andThen, swap11, swapOf, standardise}
 use Rattle.model.specs.Exchange.{standardiseIf, exchangeWhole, exchangeBy, exchange}
 use Rattle.form.specs.Run.{Rows}
 use Rattle.swaps.specs.Done.{Done, Step}
@@ -108,6 +109,19 @@ module _ (n j n1 n2 : ℕ) (t : List Float) where
       → (s ≡ s₁ + s₂) × (d ≡ d₁ + d₂)
       → Step n u t₂ u₂ s d (exchange binary64 n n j n1 n2 t)
   lower-step g h a e b k = seen-as (sym (lower-apart binary64 n n j n1 n2 t g h)) (pair (exchange binary64 n n (j + 1) n1 1) a e b k)
+
+-- ---- two single rows
+no-block : (n j : ℕ) (t u : List Float) → Done n u t u (standardiseIf binary64 n n 1 j t)
+unfolding standardiseIf onFactor
+no-block n j t u = record { form = refl; factor = refl }
+
+one-swap : (n j : ℕ) (t : List Float) {u t₁ u₁ : List Float} → Done n u t₁ u₁ (swap11 binary64 n n j t) → Step n u t₁ u₁ 1 0 (swapOf binary64 n n j 1 1 t)
+unfolding swapOf swap11
+one-swap n j t a = record { done = a; swaps = refl; declined = refl }
+
+pub single-step : (n j : ℕ) (t : List Float) {u t₁ u₁ : List Float} → Done n u t₁ u₁ (swap11 binary64 n n j t) → length u₁ ≡ length u → Step n u t₁ u₁ 1 0 (exchange binary64 n n j 1 1 t)
+single-step n j t {u} {t₁} {u₁} a e =
+    seen-as (single binary64 n n j 1 1 t refl refl) (whole-step n j 1 1 t (one-swap n j t a) e (no-block n j t₁ u₁) refl (no-block n (j + 1) t₁ u₁))
 
 -- ---- the rows of the parts
 pub lower-row : {n j n1 n2 : ℕ} → Rows n j n1 n2 → n1 ≡ 2 → Rows n (j + 1) 1 n2

@@ -131,3 +131,33 @@ pub fn exchange(t: &mut [f64], u: &mut [f64], n: usize, j: usize, n1: usize, n2:
     }
     exchange_whole(&mut *t, &mut *u, n, j, n1, n2)
 }
+
+// The exchange of two single rows.
+fn exchange_single(t: &mut [f64], u: &mut [f64], n: usize, j: usize) -> Counts
+    requires { ⌜ Sized n (now t) × Beside n (now u) × (j + 2 ≤ n) ⌝ }
+    ensures { λ r. ⌜ Step n (now (u .entry)) (now (t .exit)) (now (u .exit)) (r .swaps) (r .declined) (Exchange.exchange binary64 n n j 1 1 (now (t .entry))) × (r .swaps ≡ 1) × (r .declined ≡ 0) ⌝ }
+{
+    schur_swap_11(&mut *t, &mut *u, n, j);
+    Counts {
+        swaps: 1,
+        declined: 0,
+    }
+}
+
+// The same exchange as above, with no detour for two single rows.
+pub fn exchange_quick(
+    t: &mut [f64],
+    u: &mut [f64],
+    n: usize,
+    j: usize,
+    n1: usize,
+    n2: usize,
+) -> Counts
+    requires { ⌜ Sized n (now t) × Beside n (now u) × Rows n j n1 n2 ⌝ }
+    ensures { λ r. ⌜ Step n (now (u .entry)) (now (t .exit)) (now (u .exit)) (r .swaps) (r .declined) (Exchange.exchange binary64 n n j n1 n2 (now (t .entry))) × (r .swaps ≤ 4) × (r .declined ≤ 4) ⌝ }
+{
+    if n1 + n2 == 2 {
+        return exchange_single(&mut *t, &mut *u, n, j);
+    }
+    exchange(&mut *t, &mut *u, n, j, n1, n2)
+}

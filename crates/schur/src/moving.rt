@@ -6,7 +6,7 @@ ghost use lib.Ieee.{Float, binary64};
 ghost use Rattle.model.specs.Move as Move;
 ghost use Rattle.form.specs.Run.{Sized, Beside, Rows};
 ghost use Rattle.schur.specs.Stands.{Stands, Way, Went, rows};
-use crate::exchange::exchange;
+use crate::exchange::exchange_quick;
 use form::blocks::size_above;
 use form::blocks::size_at;
 use form::blocks::zero_below;
@@ -34,7 +34,7 @@ fn exchanging(
     ensures stands { λ r. ⌜ ((u₀ : List Float) (M : Move.Moving) → Stands n u₀ (now (t .entry)) (now (u .entry)) (m .here) (m .nbf) (m .swaps) (m .declined) M → Stands n u₀ (now (t .exit)) (now (u .exit)) (r .here) (r .nbf) (r .swaps) (r .declined) (Move.exchanging binary64 n n j n1 n2 M)) ⌝ }
     ensures counts { λ r. ⌜ (r .here ≡ m .here) × (r .nbf ≡ m .nbf) × (r .swaps ≤ m .swaps + 4) × (r .declined ≤ m .declined + 4) ⌝ }
 {
-    let c = exchange(&mut *t, &mut *u, n, j, n1, n2);
+    let c = exchange_quick(&mut *t, &mut *u, n, j, n1, n2);
     Moving {
         here: m.here,
         nbf: m.nbf,
