@@ -167,7 +167,7 @@ fn run(out: &mut [u8], n: usize, from: usize, to: usize, t: &[u64], u: &[u64]) -
 }
 
 // The sheet of a text, at the start of `out`: answers how many bytes it has.
-pub fn sheet(out: &mut [u8], input: &[u8]) -> usize
+fn sheet_of(out: &mut [u8], input: &[u8]) -> usize
     requires { ⌜ 81000 ≤ length (now out) ⌝ }
     ensures { λ r. ⌜ (r ≤ length (now (out .exit))) × Text.Sheet (now (input .entry)) (take r (now (out .exit))) ⌝ }
 {
@@ -183,4 +183,14 @@ pub fn sheet(out: &mut [u8], input: &[u8]) -> usize
         return put_answer(out, 1);
     }
     run(out, said.n, said.from, said.to, &t[..k], &u[..l])
+}
+
+// The same, with 0 and nothing written where `out` has less than 81,000 bytes, which any sheet fits.
+pub fn sheet(out: &mut [u8], input: &[u8]) -> usize
+    ensures { λ r. ⌜ (81000 ≤ length (now (out .entry)) → (r ≤ length (now (out .exit))) × Text.Sheet (now (input .entry)) (take r (now (out .exit)))) × (length (now (out .entry)) < 81000 → (r ≡ 0) × (now (out .exit) ≡ now (out .entry))) ⌝ }
+{
+    if out.len() < 81000 {
+        return 0;
+    }
+    sheet_of(out, input)
 }

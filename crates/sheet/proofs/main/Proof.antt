@@ -30,12 +30,12 @@ sheet-requires : tie.Need-sheet-requires
 sheet-requires c κs = search needs
 
 array-share-prefix-out : tie.Need-array-share-prefix-out
-array-share-prefix-out c = search needs
+array-share-prefix-out c = c .before .sheet .ensures .0 (search needs) .0
 
 slice-aggregate-write-all : tie.Need-slice-aggregate-write-all
 slice-aggregate-write-all c =
     let at-sheet = c .before .before in
-    sym (length-take-le _ _ (at-sheet .sheet .ensures .0))
+    sym (length-take-le _ _ (at-sheet .sheet .ensures .0 (search needs) .0))
 
 write-all-requires : tie.Need-write-all-requires
 write-all-requires c κs = search needs
