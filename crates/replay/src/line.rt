@@ -1,5 +1,7 @@
 // One line: its name is looked up, its words are read, the call is made, and the outcome counted.
+ghost use mathlib.Core.Path.{_≡_};
 ghost use Prim.Native.Nat.{_<_, _≤_};
+ghost use Rattle.replay.specs.Table as Table;
 ghost use lib.ListN.{length};
 use crate::table;
 use crate::table::CALLS;
@@ -38,12 +40,15 @@ fn padded(line: &[u8]) -> [u8; 28] {
 
 fn count(rows: &mut [u64; ROWS], row: usize)
     requires { do ⌜ row < (← ⟦ROWS⟧) ⌝ }
+    ensures { λ _. ⌜ now (rows .exit) ≡ Table.counted row (now (rows .entry)) ⌝ }
 {
     rows[row] = std::num::wrapping_add_u64(rows[row], 1);
 }
 
 // A line that is no line of a call.
-pub fn refuse(runs: &mut [u64; ROWS]) {
+pub fn refuse(runs: &mut [u64; ROWS])
+    ensures { λ _. do ⌜ now (runs .exit) ≡ Table.counted (← ⟦CALLS⟧ .entry) (now (runs .entry)) ⌝ }
+{
     count(runs, CALLS);
 }
 

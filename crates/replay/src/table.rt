@@ -1,6 +1,8 @@
 // The calls by number, with their names and the functions that run them. A further call takes one
 // line in `name_of`, one in `run`, and one more in CALLS and ROWS.
+ghost use mathlib.Core.Path.{_≡_};
 ghost use Prim.Native.Nat.{_<_};
+ghost use Rattle.replay.specs.Table as Table;
 use crate::blocks;
 use crate::calls;
 use replay_forms::moves;
@@ -14,7 +16,9 @@ pub const CALLS: usize = 21;
 pub const ROWS: usize = 22;
 
 // The name of a call, with spaces after it; what is no call has none.
-pub fn name_of(call: usize) -> [u8; 28] {
+pub fn name_of(call: usize) -> [u8; 28]
+    ensures { λ r. ⌜ r ≡ Table.nameOf call ⌝ }
+{
     match call {
         0 => *b"abs                         ",
         1 => *b"abs1                        ",
@@ -42,7 +46,9 @@ pub fn name_of(call: usize) -> [u8; 28] {
 }
 
 // Runs a line of a call.
-pub fn run(call: usize, w: &[u64]) -> Outcome {
+pub fn run(call: usize, w: &[u64]) -> Outcome
+    ensures { λ r. ⌜ r ≡ Table.shown call (now (w .entry)) ⌝ }
+{
     match call {
         0 => calls::abs(w),
         1 => calls::abs1(w),
