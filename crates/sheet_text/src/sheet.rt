@@ -2,8 +2,8 @@
 // where that is the text that came is the text laid out as document 01 asks.
 ghost use mathlib.Core.Path.{_≡_};
 ghost use mathlib.Core.Bool.{true};
-ghost use Prim.Native.Nat.{_≤_, _<_, _+_, _*_};
-ghost use lib.ListN.{length, take};
+ghost use Prim.Native.Nat.{_≤_, _<_, _+_, _-_, _*_};
+ghost use lib.ListN.{length, take, drop, replicate};
 ghost use Rattle.model.specs.Text as Text;
 ghost use Rattle.sheet_words.specs.Read as Read;
 ghost use lib.Ieee.{binary64};
@@ -185,12 +185,26 @@ fn sheet_of(out: &mut [u8], input: &[u8]) -> usize
     run(out, said.n, said.from, said.to, &t[..k], &u[..l])
 }
 
-// The same, with 0 and nothing written where `out` has less than 81,000 bytes, which any sheet fits.
+// Every byte zero.
+fn clear(out: &mut [u8])
+    ensures { λ _. ⌜ now (out .exit) ≡ replicate (length (now (out .entry))) 0 ⌝ }
+{
+    let mut i = 0;
+    while i < out.len() {
+        out[i] = 0;
+        i += 1;
+    }
+}
+
+// The same with zeros after it, and 0 and nothing written where `out` has less than 81,000 bytes, which
+// any sheet fits.
 pub fn sheet(out: &mut [u8], input: &[u8]) -> usize
-    ensures { λ r. ⌜ (81000 ≤ length (now (out .entry)) → (r ≤ length (now (out .exit))) × Text.Sheet (now (input .entry)) (take r (now (out .exit)))) × (length (now (out .entry)) < 81000 → (r ≡ 0) × (now (out .exit) ≡ now (out .entry))) ⌝ }
+    ensures { λ r. ⌜ (81000 ≤ length (now (out .entry)) → (r ≤ length (now (out .entry))) × Text.Sheet (now (input .entry)) (take r (now (out .exit))) × (drop r (now (out .exit)) ≡ replicate (length (now (out .entry)) - r) 0)) × (length (now (out .entry)) < 81000 → (r ≡ 0) × (now (out .exit) ≡ now (out .entry))) ⌝ }
 {
     if out.len() < 81000 {
         return 0;
     }
-    sheet_of(out, input)
+    let k = sheet_of(&mut *out, input);
+    clear(&mut out[k..]);
+    k
 }

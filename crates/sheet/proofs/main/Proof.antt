@@ -1,6 +1,7 @@
 -- `sheet::main` meets its contract. Assumes nothing.
 use mathlib.Core.Path.{sym}
 use lib.Seq.{length-take-le}
+use native.Mathlib.Omega.{arith}
 use borrow.Author.Needs.{needs}
 use Rattle.sheet.proofs.main.Statement.{statement}
 use Rattle.sheet.proofs.main.Tie as tie
@@ -30,12 +31,12 @@ sheet-requires : tie.Need-sheet-requires
 sheet-requires c κs = search needs
 
 array-share-prefix-out : tie.Need-array-share-prefix-out
-array-share-prefix-out c = c .before .sheet .ensures .0 (search needs) .0
+array-share-prefix-out c = let s = c .before .sheet in omega (arith, s .ensures .0 (search needs) .0, s .kept .0)
 
 slice-aggregate-write-all : tie.Need-slice-aggregate-write-all
 slice-aggregate-write-all c =
     let at-sheet = c .before .before in
-    sym (length-take-le _ _ (at-sheet .sheet .ensures .0 (search needs) .0))
+    sym (length-take-le _ _ (let s = at-sheet .sheet in omega (arith, s .ensures .0 (search needs) .0, s .kept .0)))
 
 write-all-requires : tie.Need-write-all-requires
 write-all-requires c κs = search needs
