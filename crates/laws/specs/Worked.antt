@@ -7,7 +7,7 @@ use lib.Ieee.{Float, binary64, ofBits, toBits}
 use Rattle.model.specs.Root.{sqrt}
 use Rattle.model.specs.Arith.{hypot}
 use Rattle.model.specs.Jacobi.{rotg}
-use Rattle.model.specs.Schur22.{Block, Standardised, Values, valuesOf, lahqrSchur22}
+use Rattle.model.specs.Schur22.{Block, Eigenvalues, real, complex, Standardised, valuesOf, lahqrSchur22}
 use Rattle.model.specs.Form.{entry}
 use Rattle.model.specs.Exchange.{exchangeCall}
 use Rattle.model.specs.Move.{Moved, moveCall}
@@ -33,6 +33,15 @@ are (x ∷ xs) (b ∷ bs) = is x b && are xs bs
 -- the four numbers of a block, and its rotation
 abbrev numbers : Block → List Float
 numbers x = x .a ∷ x .b ∷ x .c ∷ x .d ∷ x .cs ∷ x .sn ∷ []
+
+-- whether a pair is complex, by its case
+abbrev isComplex : Eigenvalues → Bool
+isComplex (real a d) = false
+isComplex (complex a d m) = true
+
+-- the real and the imaginary part of both values of a pair
+abbrev values : Eigenvalues → List Float
+values e = let v = valuesOf binary64 e in v .re1 ∷ v .im1 ∷ v .re2 ∷ v .im2 ∷ []
 
 -- the diagonal of a form of three rows
 abbrev diagonal : List Float → List Float
@@ -104,7 +113,8 @@ worked =
     ∷ are (numbers (standard five 0 two seven .block)) (seven ∷ 0xc000_0000_0000_0000 ∷ 0 ∷ five ∷ 0 ∷ one ∷ [])
     -- (0, 1, -1, 0) is unchanged, complex, size 1
     ∷ are (numbers (standard 0 one minusOne 0 .block)) (0 ∷ one ∷ minusOne ∷ 0 ∷ one ∷ 0 ∷ [])
-    ∷ is (valuesOf binary64 (standard 0 one minusOne 0 .eigenvalues) .im1) one
+    ∷ isComplex (standard 0 one minusOne 0 .eigenvalues)
+    ∷ are (values (standard 0 one minusOne 0 .eigenvalues)) (0 ∷ one ∷ 0 ∷ minusOne ∷ [])
     -- diagonal 1, 2, 3, zeros elsewhere: 0 to 2 ends 2, 3, 1 with 2 swaps; 2 to 0 ends 3, 1, 2
     ∷ ends (moveCall binary64 3 3 threeRows [] 0 2) (two ∷ three ∷ one ∷ []) 2
     ∷ ends (moveCall binary64 3 3 threeRows [] 2 0) (three ∷ one ∷ two ∷ []) 2

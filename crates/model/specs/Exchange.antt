@@ -1,13 +1,14 @@
 -- The exchange of two neighbouring blocks (schur_swap), whole, and as a call. Definitions only. Assumes nothing.
 use Prim.Native.Nat.{ℕ, zero, suc, _+_, _-_}
 use mathlib.Core.Bool.{Bool, not, _&&_, _||_, cond}
-use mathlib.Core.List.{List}
+use mathlib.Core.List.{List, [], _∷_}
 use lib.Dec.{eqb, ltb}
 use lib.ListN.{length}
 use lib.Ieee.{Float, Format}
-use Rattle.model.specs.Form.{zeroBelow, twoBlock, line2, line3, line4, line5, line6, line7}
+use Rattle.model.specs.Lines.{Line, firstOf}
+use Rattle.model.specs.Form.{zeroBelow, twoBlock, rowCount, formLength, factorLength, deepEntry, touchingBlocks, position}
 use Rattle.model.specs.Columns.{onFactor}
-use Rattle.model.specs.Swaps.{Change, unchanged, andThen, swapOf, standardise}
+use Rattle.model.specs.Swaps.{Change, unchanged, andThen, swapsOf, declinedOf, swapOf, standardise}
 
 -- ---- the exchange
 
@@ -49,17 +50,31 @@ crosses f ld n t e = ltb 0 e && twoBlock f ld n t (e - 1)
 unfoldable pub line10 : Format → ℕ → ℕ → List Float → ℕ → ℕ → ℕ → Bool
 line10 f ld n t j n1 n2 = crosses f ld n t j || (crosses f ld n t (j + n1) || crosses f ld n t (j + n1 + n2))
 
+-- the same as lines, each with its number
+
+abbrev pub blockSizes : ℕ → ℕ → Line
+blockSizes n1 n2 = record { number = 8; applies = line8 n1 n2 }
+
+abbrev pub pastTheEnd : ℕ → ℕ → ℕ → ℕ → Line
+pastTheEnd n j n1 n2 = record { number = 9; applies = line9 n j n1 n2 }
+
+abbrev pub acrossEdges : Format → ℕ → ℕ → List Float → ℕ → ℕ → ℕ → Line
+acrossEdges f ld n t j n1 n2 = record { number = 10; applies = line10 f ld n t j n1 n2 }
+
 unfoldable pub exchangeLine : Format → ℕ → ℕ → List Float → List Float → ℕ → ℕ → ℕ → ℕ
+unfolding firstOf
 exchangeLine f ld n t u j n1 n2 =
-    cond (line2 n) 2
-    (cond (line3 ld n t) 3
-    (cond (line4 ld n u) 4
-    (cond (line5 f ld n t) 5
-    (cond (line6 f ld n t) 6
-    (cond (line7 n j) 7
-    (cond (line8 n1 n2) 8
-    (cond (line9 n j n1 n2) 9
-    (cond (line10 f ld n t j n1 n2) 10 0))))))))
+    firstOf
+    (rowCount n
+    ∷ formLength ld n t
+    ∷ factorLength ld n u
+    ∷ deepEntry f ld n t
+    ∷ touchingBlocks f ld n t
+    ∷ position n j
+    ∷ blockSizes n1 n2
+    ∷ pastTheEnd n j n1 n2
+    ∷ acrossEdges f ld n t j n1 n2
+    ∷ [])
 
 -- ---- the call
 
@@ -77,7 +92,7 @@ pub record Exchanged : Type 0 where
 -- a change of the form, and of the factor beside it
 abbrev pub exchanged : Format → ℕ → ℕ → List Float → Change → Exchanged
 exchanged f ld n u c =
-    record { answer = 0; swaps = c .swaps; declined = c .declined; form = c .form; factor = onFactor f ld (factorRows n u) (c .operations) u }
+    record { answer = 0; swaps = swapsOf c; declined = declinedOf c; form = c .form; factor = onFactor f ld (factorRows n u) (c .operations) u }
 
 unfoldable pub exchangeCall : Format → ℕ → ℕ → List Float → List Float → ℕ → ℕ → ℕ → Exchanged
 exchangeCall f ld n t u j n1 n2 =

@@ -1,12 +1,13 @@
 -- A form lent column after column, what stands where in it, and the lines of document 01's list that speak of a form. Definitions only. Assumes nothing.
 -- `ld` is the number of places from one column to the next: n, in every call of the base.
 use Prim.Native.Nat.{ℕ, zero, suc, _+_, _-_, _*_}
-use mathlib.Core.Bool.{Bool, false, not, _&&_, _||_, cond}
-use mathlib.Core.List.{List}
+use mathlib.Core.Bool.{Bool, false, not, _&&_, _||_}
+use mathlib.Core.List.{List, [], _∷_}
 use lib.Dec.{eqb, ltb}
 use lib.ListN.{length, getD}
 use lib.Ieee.{Float, nan, Format, eq, ne}
 use Rattle.model.specs.Arith.{zeroOf}
+use Rattle.model.specs.Lines.{Line, firstOf}
 
 -- ---- places
 
@@ -73,7 +74,31 @@ line6 f ld n t = some (n - 2) (touchingIn f ld t)
 unfoldable pub line7 : ℕ → ℕ → Bool
 line7 n p = not (ltb p n)
 
+-- ---- the same as lines, each with its number
+
+abbrev pub rowCount : ℕ → Line
+rowCount n = record { number = 2; applies = line2 n }
+
+abbrev pub formLength : ℕ → ℕ → List Float → Line
+formLength ld n t = record { number = 3; applies = line3 ld n t }
+
+abbrev pub factorLength : ℕ → ℕ → List Float → Line
+factorLength ld n u = record { number = 4; applies = line4 ld n u }
+
+-- a further buffer of so many numbers, where so many are asked for
+abbrev pub bufferLength : ℕ → ℕ → Line
+bufferLength has asked = record { number = 4; applies = not (eqb has asked) }
+
+abbrev pub deepEntry : Format → ℕ → ℕ → List Float → Line
+deepEntry f ld n t = record { number = 5; applies = line5 f ld n t }
+
+abbrev pub touchingBlocks : Format → ℕ → ℕ → List Float → Line
+touchingBlocks f ld n t = record { number = 6; applies = line6 f ld n t }
+
+abbrev pub position : ℕ → ℕ → Line
+position n p = record { number = 7; applies = line7 n p }
+
 -- the first line that applies to a form by itself, or 0
 unfoldable pub formLine : Format → ℕ → ℕ → List Float → ℕ
-unfolding line2 line3 line5 line6
-formLine f ld n t = cond (line2 n) 2 (cond (line3 ld n t) 3 (cond (line5 f ld n t) 5 (cond (line6 f ld n t) 6 0)))
+unfolding firstOf line2 line3 line5 line6
+formLine f ld n t = firstOf (rowCount n ∷ formLength ld n t ∷ deepEntry f ld n t ∷ touchingBlocks f ld n t ∷ [])

@@ -14,8 +14,8 @@ num r j = getD r j nan
 abbrev pub row : List (List Float) → ℕ → List Float
 row t i = getD t i []
 
-abbrev pub at : List (List Float) → ℕ → ℕ → Float
-at t i j = num (row t i) j
+abbrev pub cell : List (List Float) → ℕ → ℕ → Float
+cell t i j = num (row t i) j
 
 abbrev pub four : {A : Type 0} → A → A → A → A → List A
 four x y z w = x ∷ y ∷ z ∷ w ∷ []
@@ -42,20 +42,20 @@ smlnum f = div f (minPositiveOf f) (epsOf f)
 -- the least pivot
 unfoldable pub sminOf : Format → List (List Float) → List (List Float) → Float
 sminOf f tl tr =
-    fmax (mul f (epsOf f) (largest (fmax (largest (abs (at tr 0 0)) (at tr 0 1) (at tr 1 0) (at tr 1 1)) (abs (at tl 0 0))) (at tl 0 1) (at tl 1 0) (at tl 1 1))) (smlnum f)
+    fmax (mul f (epsOf f) (largest (fmax (largest (abs (cell tr 0 0)) (cell tr 0 1) (cell tr 1 0) (cell tr 1 1)) (abs (cell tl 0 0))) (cell tl 0 1) (cell tl 1 0) (cell tl 1 1))) (smlnum f)
 
 -- the system of tl * x - x * tr, for x column after column
 unfoldable pub t16Of : Format → List (List Float) → List (List Float) → List (List Float)
 t16Of f tl tr =
     four
-    (four (sub f (at tl 0 0) (at tr 0 0)) (at tl 0 1) (neg (at tr 1 0)) (zeroOf f))
-    (four (at tl 1 0) (sub f (at tl 1 1) (at tr 0 0)) (zeroOf f) (neg (at tr 1 0)))
-    (four (neg (at tr 0 1)) (zeroOf f) (sub f (at tl 0 0) (at tr 1 1)) (at tl 0 1))
-    (four (zeroOf f) (neg (at tr 0 1)) (at tl 1 0) (sub f (at tl 1 1) (at tr 1 1)))
+    (four (sub f (cell tl 0 0) (cell tr 0 0)) (cell tl 0 1) (neg (cell tr 1 0)) (zeroOf f))
+    (four (cell tl 1 0) (sub f (cell tl 1 1) (cell tr 0 0)) (zeroOf f) (neg (cell tr 1 0)))
+    (four (neg (cell tr 0 1)) (zeroOf f) (sub f (cell tl 0 0) (cell tr 1 1)) (cell tl 0 1))
+    (four (zeroOf f) (neg (cell tr 0 1)) (cell tl 1 0) (sub f (cell tl 1 1) (cell tr 1 1)))
 
 -- column after column
 unfoldable pub btmpOf : List (List Float) → List Float
-btmpOf b = four (at b 0 0) (at b 1 0) (at b 0 1) (at b 1 1)
+btmpOf b = four (cell b 0 0) (cell b 1 0) (cell b 0 1) (cell b 1 1)
 
 -- ---- the pivot
 
@@ -71,7 +71,7 @@ better x i j best = cond (le (best .xmax) (abs x)) (record { xmax = abs x; row =
 -- k numbers of row ip, from column jp on
 unfoldable pub pivotInRow : List (List Float) → ℕ → ℕ → ℕ → Pivot → Pivot
 pivotInRow t ip zero jp best = best
-pivotInRow t ip (suc k) jp best = pivotInRow t ip k (jp + 1) (better (at t ip jp) ip jp best)
+pivotInRow t ip (suc k) jp best = pivotInRow t ip k (jp + 1) (better (cell t ip jp) ip jp best)
 
 -- k rows from row ip on, each from column i on
 unfoldable pub pivotFrom : List (List Float) → ℕ → ℕ → ℕ → Pivot → Pivot
@@ -86,7 +86,7 @@ pivot f t i = pivotFrom t i (4 - i) i (record { xmax = zeroOf f; row = i; col = 
 
 -- a diagonal number below smin in magnitude becomes smin
 unfoldable pub raised : List (List Float) → ℕ → Float → List (List Float)
-raised t i smin = cond (lt (abs (at t i i)) smin) (set t i (set (row t i) i smin)) t
+raised t i smin = cond (lt (abs (cell t i i)) smin) (set t i (set (row t i) i smin)) t
 
 -- m times row p taken off row r, k places from place j on
 unfoldable pub lessFrom : Format → List Float → Float → ℕ → ℕ → List Float → List Float
@@ -112,7 +112,7 @@ reduced f i p smin t = eliminate f i (raised (swapCols (swapRows t (p .row) i) (
 -- the right-hand side, by the multipliers that stand in column i of t, k rows from row j on
 unfoldable pub rhsFrom : Format → List (List Float) → ℕ → ℕ → ℕ → List Float → List Float
 rhsFrom f t i zero j b = b
-rhsFrom f t i (suc k) j b = rhsFrom f t i k (j + 1) (set b j (sub f (num b j) (mul f (at t j i) (num b i))))
+rhsFrom f t i (suc k) j b = rhsFrom f t i k (j + 1) (set b j (sub f (num b j) (mul f (cell t j i) (num b i))))
 
 unfoldable pub reducedRhs : Format → List (List Float) → ℕ → Pivot → List Float → List Float
 reducedRhs f t i p b = rhsFrom f t i (4 - (i + 1)) (i + 1) (swapPlaces b (p .row) i)
@@ -128,16 +128,16 @@ unfoldable pub exceeds : Format → Float → Float → Bool
 exceeds f t b = lt (abs t) (mul f (mul f (eightOf f) (smlnum f)) (abs b))
 
 unfoldable pub tooLarge : Format → List (List Float) → List Float → Bool
-tooLarge f t b = exceeds f (at t 0 0) (num b 0) || (exceeds f (at t 1 1) (num b 1) || (exceeds f (at t 2 2) (num b 2) || exceeds f (at t 3 3) (num b 3)))
+tooLarge f t b = exceeds f (cell t 0 0) (num b 0) || (exceeds f (cell t 1 1) (num b 1) || (exceeds f (cell t 2 2) (num b 2) || exceeds f (cell t 3 3) (num b 3)))
 
-unfoldable pub times : Format → List Float → Float → List Float
-times f b k = four (mul f (num b 0) k) (mul f (num b 1) k) (mul f (num b 2) k) (mul f (num b 3) k)
+unfoldable pub scaledBy : Format → List Float → Float → List Float
+scaledBy f b k = four (mul f (num b 0) k) (mul f (num b 1) k) (mul f (num b 2) k) (mul f (num b 3) k)
 
 -- with its scale, 1 where no row is too large
 unfoldable pub scaledRhs : Format → List (List Float) → List Float → Solution
 scaledRhs f t b =
     let scale = div f (eighthOf f) (largest (abs (num b 0)) (num b 1) (num b 2) (num b 3)) in
-    cond (tooLarge f t b) (record { x = times f b scale; scale = scale }) (record { x = b; scale = oneOf f })
+    cond (tooLarge f t b) (record { x = scaledBy f b scale; scale = scale }) (record { x = b; scale = oneOf f })
 
 -- ---- back substitution
 
@@ -148,7 +148,7 @@ entryFrom f r x temp (suc k) j s = entryFrom f r x temp k (j + 1) (sub f s (mul 
 
 -- x with its number at place k, from those behind it
 unfoldable pub entryAt : Format → List (List Float) → List Float → ℕ → List Float → List Float
-entryAt f t b k x = let temp = recip f (at t k k) in set x k (entryFrom f (row t k) x temp (4 - (k + 1)) (k + 1) (mul f (num b k) temp))
+entryAt f t b k x = let temp = recip f (cell t k k) in set x k (entryFrom f (row t k) x temp (4 - (k + 1)) (k + 1) (mul f (num b k) temp))
 
 -- from the last row up
 unfoldable pub back : Format → List (List Float) → List Float → List Float

@@ -1,12 +1,13 @@
--- The move of a block (reorder_schur), whole, and as a call; and lists of moves. Definitions only. Assumes nothing.
+-- The move of a block (reorder_schur), whole, and as a call. Definitions only. Assumes nothing.
 use Prim.Native.Nat.{ℕ, zero, suc, _+_, _-_}
 use mathlib.Core.Bool.{Bool, _&&_, cond}
 use mathlib.Core.List.{List, [], _∷_, _++_}
 use lib.Dec.{eqb, ltb, leb}
 use lib.Ieee.{Float, Format}
-use Rattle.model.specs.Form.{zeroBelow, nonzeroBelow, twoBlock, line2, line3, line4, line5, line6, line7}
+use Rattle.model.specs.Lines.{firstOf}
+use Rattle.model.specs.Form.{zeroBelow, nonzeroBelow, twoBlock, rowCount, formLength, factorLength, deepEntry, touchingBlocks, position}
 use Rattle.model.specs.Columns.{onFactor}
-use Rattle.model.specs.Swaps.{Change, unchanged, andThen}
+use Rattle.model.specs.Swaps.{Change, unchanged, andThen, swapsOf, declinedOf}
 use Rattle.model.specs.Exchange.{exchange, factorRows}
 
 -- ---- blocks
@@ -131,10 +132,17 @@ move f ld n from to t = moveFrom f ld n (firstRow f ld t from) (firstRow f ld t 
 -- ---- the call
 
 unfoldable pub moveLine : Format → ℕ → ℕ → List Float → List Float → ℕ → ℕ → ℕ
+unfolding firstOf
 moveLine f ld n t u from to =
-    cond (line2 n) 2
-    (cond (line3 ld n t) 3
-    (cond (line4 ld n u) 4 (cond (line5 f ld n t) 5 (cond (line6 f ld n t) 6 (cond (line7 n from) 7 (cond (line7 n to) 7 0))))))
+    firstOf
+    (rowCount n
+    ∷ formLength ld n t
+    ∷ factorLength ld n u
+    ∷ deepEntry f ld n t
+    ∷ touchingBlocks f ld n t
+    ∷ position n from
+    ∷ position n to
+    ∷ [])
 
 pub record Moved : Type 0 where
   pub answer : ℕ
@@ -148,7 +156,7 @@ pub record Moved : Type 0 where
 abbrev pub moved : Format → ℕ → ℕ → List Float → Moving → Moved
 moved f ld n u m =
     let c = m .change in
-    record { answer = 0; landed = m .here; swaps = c .swaps; declined = c .declined; form = c .form; factor = onFactor f ld (factorRows n u) (c .operations) u }
+    record { answer = 0; landed = m .here; swaps = swapsOf c; declined = declinedOf c; form = c .form; factor = onFactor f ld (factorRows n u) (c .operations) u }
 
 unfoldable pub moveCall : Format → ℕ → ℕ → List Float → List Float → ℕ → ℕ → Moved
 moveCall f ld n t u from to =

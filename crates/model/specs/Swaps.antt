@@ -1,9 +1,9 @@
 -- The four swaps of neighbouring blocks, and standardising a 2-block, on a form. Definitions only. Assumes nothing.
 use Prim.Native.Nat.{ℕ, _+_}
-use mathlib.Core.Bool.{Bool, cond}
+use mathlib.Core.Bool.{Bool, true, false, cond}
 use mathlib.Core.List.{List, [], _∷_, _++_}
 use lib.Dec.{eqb}
-use lib.ListN.{set}
+use lib.ListN.{length, set}
 use lib.Ieee.{Float, Format, neg, sub, mul, div, lt}
 use Rattle.model.specs.Arith.{zeroOf, tenOf, epsOf, minPositiveOf, abs, recip, fmax}
 use Rattle.model.specs.Form.{place, at, entry}
@@ -13,26 +13,50 @@ use Rattle.model.specs.Schur22.{Block, lahqrSchur22}
 use Rattle.model.specs.Lasy2.{Sylvester, lasy2}
 use Rattle.model.specs.Columns.{Triple, Quad, Reflect3, Reflect4, reflectTriple, reflectQuad, reflect4, Operation, rotates, reflects3, reflects4, onForm}
 
--- ---- what is done to a form: how it then is, the operations that the factor's columns take too, how many swaps were run, and how many of them declined
+-- ---- what is done to a form
+
+-- one run of a swap routine: the n1 rows from a row on with the n2 below them, and whether it declined
+pub record Swap : Type 0 where
+  pub row : ℕ
+  pub n1 : ℕ
+  pub n2 : ℕ
+  pub declined : Bool
+
+-- how the form then is, the operations that the factor's columns take too, and the runs of the four swap routines, in order
 pub record Change : Type 0 where
   pub form : List Float
   pub operations : List Operation
-  pub swaps : ℕ
-  pub declined : ℕ
+  pub runs : List Swap
+
+-- how many of some runs declined
+unfoldable pub declinesIn : List Swap → ℕ
+declinesIn [] = 0
+declinesIn (r ∷ rs) = cond (r .declined) 1 0 + declinesIn rs
+
+-- the two counts of an answer: of the runs, and of those that declined
+abbrev pub swapsOf : Change → ℕ
+swapsOf c = length (c .runs)
+
+abbrev pub declinedOf : Change → ℕ
+declinedOf c = declinesIn (c .runs)
 
 -- nothing
 abbrev pub unchanged : List Float → Change
-unchanged t = record { form = t; operations = []; swaps = 0; declined = 0 }
+unchanged t = record { form = t; operations = []; runs = [] }
 
--- one swap
-abbrev pub swapped : List Float → Operation → Change
-swapped t o = record { form = t; operations = o ∷ []; swaps = 1; declined = 0 }
+-- one swap that does not decline
+abbrev pub swapped : ℕ → ℕ → ℕ → List Float → Operation → Change
+swapped j n1 n2 t o = record { form = t; operations = o ∷ []; runs = record { row = j; n1 = n1; n2 = n2; declined = false } ∷ [] }
+
+-- one that declines touches neither form nor factor
+abbrev pub declining : ℕ → ℕ → ℕ → List Float → Change
+declining j n1 n2 t = record { form = t; operations = []; runs = record { row = j; n1 = n1; n2 = n2; declined = true } ∷ [] }
 
 -- one change, and then another of the form as the first left it
 unfoldable pub andThen : Change → (List Float → Change) → Change
 andThen c next =
     let d = next (c .form) in
-    record { form = d .form; operations = c .operations ++ d .operations; swaps = c .swaps + d .swaps; declined = c .declined + d .declined }
+    record { form = d .form; operations = c .operations ++ d .operations; runs = c .runs ++ d .runs }
 
 -- v put in row i, column j
 abbrev pub put : ℕ → ℕ → ℕ → Float → List Float → List Float
@@ -46,7 +70,7 @@ rotation11 f ld t j = adjoint (rotg f (entry ld t j (j + 1)) (sub f (entry ld t 
 unfoldable pub swap11 : Format → ℕ → ℕ → ℕ → List Float → Change
 swap11 f ld n j t =
     let o = rotates (rotation11 f ld t j) j (j + 1) in
-    swapped (onForm f ld n (j + 2) j o (put ld j j (entry ld t (j + 1) (j + 1)) (put ld (j + 1) (j + 1) (entry ld t j j) t))) o
+    swapped j 1 1 (onForm f ld n (j + 2) j o (put ld j j (entry ld t (j + 1) (j + 1)) (put ld (j + 1) (j + 1) (entry ld t j j) t))) o
 
 -- ---- 1 against 2, and 2 against 1 with the rows in reversed order
 
@@ -71,7 +95,7 @@ reflectors12 f ld t j =
 unfoldable pub swap12 : Format → ℕ → ℕ → ℕ → List Float → Change
 swap12 f ld n j t =
     let o = reflects3 (reflectors12 f ld t j) j (j + 1) (j + 2) in
-    swapped (put ld (j + 2) (j + 1) (zeroOf f) (put ld (j + 2) j (zeroOf f) (onForm f ld n j (j + 3) o t))) o
+    swapped j 1 2 (put ld (j + 2) (j + 1) (zeroOf f) (put ld (j + 2) j (zeroOf f) (onForm f ld n j (j + 3) o t))) o
 
 unfoldable pub reflectors21 : Format → ℕ → List Float → ℕ → Reflect3
 reflectors21 f ld t j =
@@ -83,7 +107,7 @@ reflectors21 f ld t j =
 unfoldable pub swap21 : Format → ℕ → ℕ → ℕ → List Float → Change
 swap21 f ld n j t =
     let o = reflects3 (reflectors21 f ld t j) (j + 2) (j + 1) j in
-    swapped (put ld (j + 2) j (zeroOf f) (put ld (j + 1) j (zeroOf f) (onForm f ld n j (j + 3) o t))) o
+    swapped j 2 1 (put ld (j + 2) j (zeroOf f) (put ld (j + 1) j (zeroOf f) (onForm f ld n j (j + 3) o t))) o
 
 -- ---- 2 against 2: tried on the 4 by 4 window first
 
@@ -157,18 +181,18 @@ reflectors4 f x =
 unfoldable pub declines : Format → Reflect4 → Window → Bool
 declines f v w = lt (threshold f w) (lowerLeft (triedWindow f v w))
 
--- a decline touches neither form nor factor
+-- where it does not decline
 unfoldable pub swap22By : Format → ℕ → ℕ → ℕ → Reflect4 → List Float → Change
 swap22By f ld n j v t =
     let o = reflects4 v j (j + 1) (j + 2) (j + 3) in
     let z = zeroOf f in
-    swapped (put ld (j + 3) (j + 1) z (put ld (j + 3) j z (put ld (j + 2) (j + 1) z (put ld (j + 2) j z (onForm f ld n j (j + 4) o t))))) o
+    swapped j 2 2 (put ld (j + 3) (j + 1) z (put ld (j + 3) j z (put ld (j + 2) (j + 1) z (put ld (j + 2) j z (onForm f ld n j (j + 4) o t))))) o
 
 unfoldable pub swap22 : Format → ℕ → ℕ → ℕ → List Float → Change
 swap22 f ld n j t =
     let w = windowAt ld t j in
     let v = reflectors4 f (solutionOf f w) in
-    cond (declines f v w) (record { form = t; operations = []; swaps = 1; declined = 1 }) (swap22By f ld n j v t)
+    cond (declines f v w) (declining j 2 2 t) (swap22By f ld n j v t)
 
 -- ---- the swap of n1 rows from row j on with the n2 below them, each 1 or 2
 
@@ -188,6 +212,5 @@ standardise f ld n j t =
     record {
       form = onForm f ld n (j + 2) j o (put ld (j + 1) (j + 1) (b .d) (put ld (j + 1) j (b .c) (put ld j (j + 1) (b .b) (put ld j j (b .a) t))));
       operations = o ∷ [];
-      swaps = 0;
-      declined = 0;
+      runs = [];
     }

@@ -1,14 +1,15 @@
 -- The vectors of a form: dots, the two shifted solvers (plain branch), the columns of each block, and a column of the vectors. Definitions only. Assumes nothing.
 -- A system's matrix is a list `a` whose columns stand ld apart, so that a part of a form is one too; its unknowns are a list `x`, with a second column ld further where they are complex.
 use Prim.Native.Nat.{ℕ, zero, suc, _+_, _-_, _*_}
-use mathlib.Core.Bool.{Bool, not, cond}
-use mathlib.Core.List.{List, [], _++_}
+use mathlib.Core.Bool.{cond}
+use mathlib.Core.List.{List, [], _∷_, _++_}
 use lib.Dec.{eqb, ltb}
 use lib.ListN.{length, set, take, drop}
 use lib.Ieee.{Float, Format, neg, add, sub, mul, div, lt, le, ne}
 use Rattle.model.specs.Arith.{zeroOf, oneOf, twoOf, epsOf, abs, abs1, abs2, recip, mulPow2, hypot, innerProd}
-use Rattle.model.specs.Form.{place, at, entry, zeroBelow, line2, line7}
-use Rattle.model.specs.Values.{furtherLine, sizeAt}
+use Rattle.model.specs.Lines.{firstOf}
+use Rattle.model.specs.Form.{place, at, entry, zeroBelow, rowCount, formLength, bufferLength, deepEntry, touchingBlocks, position}
+use Rattle.model.specs.Values.{imagSizeAt}
 
 -- ---- dots
 
@@ -77,8 +78,8 @@ pub record Complex : Type 0 where
   pub re : Float
   pub im : Float
 
-unfoldable pub times : Format → Complex → Complex → Complex
-times f x y = record { re = sub f (mul f (x .re) (y .re)) (mul f (x .im) (y .im)); im = add f (mul f (x .re) (y .im)) (mul f (x .im) (y .re)) }
+unfoldable pub complexTimes : Format → Complex → Complex → Complex
+complexTimes f x y = record { re = sub f (mul f (x .re) (y .re)) (mul f (x .im) (y .im)); im = add f (mul f (x .re) (y .im)) (mul f (x .im) (y .re)) }
 
 -- x - k * y
 unfoldable pub lessTimes : Format → Complex → Float → Complex → Complex
@@ -108,7 +109,7 @@ unfoldable pub cplxOne : Format → ℕ → List Float → Float → Float → F
 cplxOne f ld a p q norm n i x =
     let row = strided a (place ld i (i + 1)) ld in
     let r = complexSub f (complexAt ld x i) (splitProd f (strided x (i + 1) 1) row (n - (i + 1))) (splitProd f (strided x (ld + (i + 1)) 1) row (n - (i + 1))) in
-    complexSet ld x i (times f r (inverse f norm (record { re = sub f (entry ld a i i) p; im = neg q })))
+    complexSet ld x i (complexTimes f r (inverse f norm (record { re = sub f (entry ld a i i) p; im = neg q })))
 
 -- the determinant of the 2-block less (p, q) on its diagonal, which is s there in both rows
 unfoldable pub determinant : Format → Complex → Float → Float → Complex
@@ -123,7 +124,7 @@ pub record Rows : Type 0 where
 unfoldable pub solvePair : Format → Float → Complex → Float → Float → Rows → Rows
 solvePair f norm s b c r =
     let w = inverse f norm (determinant f s b c) in
-    record { upper = times f (lessTimes f (times f s (r .upper)) b (r .lower)) w; lower = times f (lessTimes f (times f s (r .lower)) c (r .upper)) w }
+    record { upper = complexTimes f (lessTimes f (complexTimes f s (r .upper)) b (r .lower)) w; lower = complexTimes f (lessTimes f (complexTimes f s (r .lower)) c (r .upper)) w }
 
 -- row i less its inner products with the rows from j on
 unfoldable pub cplxRest : Format → ℕ → List Float → ℕ → List Float → ℕ → ℕ → Complex
@@ -202,13 +203,13 @@ scaledRuns f ld t s p (suc k) i v =
 -- a 2-block's columns j and j + 1, before the rows above it are solved for
 unfoldable pub openColumns : Format → ℕ → List Float → ℕ → List Float → List Float
 openColumns f ld t j v =
-    let s = startOf f (entry ld t j (j + 1)) (entry ld t (j + 1) j) (sizeAt f ld t j) in
+    let s = startOf f (entry ld t j (j + 1)) (entry ld t (j + 1) j) (imagSizeAt f ld t j) in
     scaledRuns f ld t s (ld * j) j 0 (startBlock f ld j s v)
 
 -- a 2-block's columns j and j + 1: the real and the imaginary part
 unfoldable pub cplxColumns : Format → ℕ → List Float → Float → ℕ → List Float → List Float
 cplxColumns f ld t norm j v =
-    onPart (ld * j) (ld + j) (solveCplx f ld t (entry ld t (j + 1) (j + 1)) (sizeAt f ld t j) norm j) (openColumns f ld t j v)
+    onPart (ld * j) (ld + j) (solveCplx f ld t (entry ld t (j + 1) (j + 1)) (imagSizeAt f ld t j) norm j) (openColumns f ld t j v)
 
 -- ---- the calls
 
@@ -226,7 +227,9 @@ pub record Vectors : Type 0 where
   pub v : List Float
 
 unfoldable pub vectorsLine : Format → ℕ → ℕ → List Float → List Float → ℕ
-vectorsLine f ld n t v = furtherLine f ld n t (not (eqb (length v) (ld * n)))
+unfolding firstOf
+vectorsLine f ld n t v =
+    firstOf (rowCount n ∷ formLength ld n t ∷ bufferLength (length v) (ld * n) ∷ deepEntry f ld n t ∷ touchingBlocks f ld n t ∷ [])
 
 -- turned away, it leaves the vectors
 unfoldable pub evdFromRealSchur : Format → ℕ → ℕ → List Float → List Float → Vectors
@@ -235,7 +238,8 @@ evdFromRealSchur f ld n t v =
 
 -- the first line that applies to a column of vectors, or 0
 unfoldable pub columnLine : ℕ → ℕ → List Float → ℕ → ℕ
-columnLine ld n v col = cond (line2 n) 2 (cond (not (eqb (length v) (ld * n))) 4 (cond (line7 n col) 7 0))
+unfolding firstOf
+columnLine ld n v col = firstOf (rowCount n ∷ bufferLength (length v) (ld * n) ∷ position n col ∷ [])
 
 -- the part that is column `col`, or one of length 0
 unfoldable pub columnOf : ℕ → ℕ → List Float → ℕ → List Float

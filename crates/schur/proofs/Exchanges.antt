@@ -11,26 +11,26 @@ use lib.Ieee.{Float, Format, binary64}
 use borrow.Author.Tests.{eqb-true}
 use Rattle.model.specs.Form.{zeroBelow}
 use Rattle.model.specs.Columns.{onFactor}
-use Rattle.model.specs.Swaps.{Change, unchanged, andThen, swap11, swapOf, standardise}
+use Rattle.model.specs.Swaps.{Change, unchanged, andThen, declinesIn, swapsOf, declinedOf, swap11, swapOf, standardise}
 use Rattle.model.specs.Exchange.{standardiseIf, exchangeWhole, exchangeBy, exchange}
 use Rattle.form.specs.Run.{Rows}
 use Rattle.swaps.specs.Done.{Done, Step}
-use Rattle.swaps.proofs.Steps.{done-then, step-then}
+use Rattle.swaps.proofs.Steps.{done-then, step-then, swaps-then, declined-then}
 
 -- ---- standardising counts nothing
-no-swaps : (f : Format) (ld n size j : ℕ) (t : List Float) → standardiseIf f ld n size j t .swaps ≡ 0
+no-swaps : (f : Format) (ld n size j : ℕ) (t : List Float) → swapsOf (standardiseIf f ld n size j t) ≡ 0
 unfolding standardiseIf standardise
 no-swaps f ld n size j t = go (eqb size 2)
   where
-    go : (b : Bool) → cond b (standardise f ld n j t) (unchanged t) .swaps ≡ 0
+    go : (b : Bool) → swapsOf (cond b (standardise f ld n j t) (unchanged t)) ≡ 0
     go true = refl
     go false = refl
 
-none-declined : (f : Format) (ld n size j : ℕ) (t : List Float) → standardiseIf f ld n size j t .declined ≡ 0
-unfolding standardiseIf standardise
+none-declined : (f : Format) (ld n size j : ℕ) (t : List Float) → declinedOf (standardiseIf f ld n size j t) ≡ 0
+unfolding standardiseIf standardise declinesIn
 none-declined f ld n size j t = go (eqb size 2)
   where
-    go : (b : Bool) → cond b (standardise f ld n j t) (unchanged t) .declined ≡ 0
+    go : (b : Bool) → declinedOf (cond b (standardise f ld n j t) (unchanged t)) ≡ 0
     go true = refl
     go false = refl
 
@@ -41,12 +41,12 @@ pub whole-step : (n j n1 n2 : ℕ) (t : List Float) {u t₁ u₁ t₂ u₂ t₃ 
     → length u₂ ≡ length u₁
     → Done n u₂ t₃ u₃ (standardiseIf binary64 n n n1 (j + n2) t₂)
     → Step n u t₃ u₃ s d (exchangeWhole binary64 n n j n1 n2 t)
-unfolding exchangeWhole andThen
+unfolding exchangeWhole
 whole-step n j n1 n2 t a e b g c =
     record {
       done = done-then (standardiseIf binary64 n n n1 (j + n2)) (done-then (standardiseIf binary64 n n n2 j) (a .done) e b) (g ∙ e) c;
-      swaps = simp (no-swaps, add-zero) (a .swaps);
-      declined = simp (none-declined, add-zero) (a .declined);
+      swaps = simp (swaps-then, no-swaps, add-zero) (a .swaps);
+      declined = simp (declined-then, none-declined, add-zero) (a .declined);
     }
 
 -- ---- the tests
@@ -116,7 +116,7 @@ unfolding standardiseIf onFactor
 no-block n j t u = record { form = refl; factor = refl }
 
 one-swap : (n j : ℕ) (t : List Float) {u t₁ u₁ : List Float} → Done n u t₁ u₁ (swap11 binary64 n n j t) → Step n u t₁ u₁ 1 0 (swapOf binary64 n n j 1 1 t)
-unfolding swapOf swap11
+unfolding swapOf swap11 declinesIn
 one-swap n j t a = record { done = a; swaps = refl; declined = refl }
 
 pub single-step : (n j : ℕ) (t : List Float) {u t₁ u₁ : List Float} → Done n u t₁ u₁ (swap11 binary64 n n j t) → length u₁ ≡ length u → Step n u t₁ u₁ 1 0 (exchange binary64 n n j 1 1 t)

@@ -9,7 +9,7 @@ use lib.Ieee.{Float, binary64}
 use borrow.Author.Tests.{eq-eqb, ne-eqb, lt-ltb, le-ltb}
 use Rattle.model.specs.Form.{zeroBelow}
 use Rattle.model.specs.Columns.{onFactor}
-use Rattle.model.specs.Swaps.{Change, unchanged}
+use Rattle.model.specs.Swaps.{Change, declinesIn, unchanged}
 use Rattle.model.specs.Exchange.{Exchanged, exchanged, exchange}
 use Rattle.model.specs.Move as Move
 use Rattle.swaps.specs.Done.{Step}
@@ -115,7 +115,7 @@ abbrev start : ℕ → List Float → ℕ → Move.Moving
 start n t from = record { here = from; nbf = Move.sizeAt binary64 n n t from; change = unchanged t; exchanges = [] }
 
 pub starts : (n : ℕ) (u t : List Float) (from nbf : ℕ) → nbf ≡ Move.sizeAt binary64 n n t from → Stands n u t u from nbf 0 0 (start n t from)
-unfolding onFactor
+unfolding onFactor declinesIn
 starts n u t from nbf e = record { here = refl; nbf = e; step = record { done = record { form = refl; factor = refl }; swaps = refl; declined = refl }; kept = refl }
 
 module _ (n from to : ℕ) (t : List Float) where

@@ -95,8 +95,8 @@ fn both(a: Counts, b: Counts) -> Counts
     }
 }
 
-// The exchange of at most three rows. Two rows with a zero inside go one by one.
-fn exchange_three(t: &mut [f64], u: &mut [f64], n: usize, j: usize, n1: usize, n2: usize) -> Counts
+// The exchange where there are at most three rows in all. Two rows with a zero inside go one by one.
+fn exchange_three_rows(t: &mut [f64], u: &mut [f64], n: usize, j: usize, n1: usize, n2: usize) -> Counts
     requires { ⌜ Sized n (now t) × Beside n (now u) × Rows n j n1 n2 × (n1 + n2 ≤ 3) ⌝ }
     ensures { λ r. ⌜ Step n (now (u .entry)) (now (t .exit)) (now (u .exit)) (r .swaps) (r .declined) (Exchange.exchange binary64 n n j n1 n2 (now (t .entry))) × (r .swaps ≤ 2) × (r .declined ≤ 2) ⌝ }
 {
@@ -120,20 +120,20 @@ pub fn exchange(t: &mut [f64], u: &mut [f64], n: usize, j: usize, n1: usize, n2:
     ensures { λ r. ⌜ Step n (now (u .entry)) (now (t .exit)) (now (u .exit)) (r .swaps) (r .declined) (Exchange.exchange binary64 n n j n1 n2 (now (t .entry))) × (r .swaps ≤ 4) × (r .declined ≤ 4) ⌝ }
 {
     if apart(&*t, n, n1, j) {
-        let a = exchange_three(&mut *t, &mut *u, n, j + 1, 1, n2);
-        let b = exchange_three(&mut *t, &mut *u, n, j, 1, n2);
+        let a = exchange_three_rows(&mut *t, &mut *u, n, j + 1, 1, n2);
+        let b = exchange_three_rows(&mut *t, &mut *u, n, j, 1, n2);
         return both(a, b);
     }
     if apart(&*t, n, n2, j + n1) {
-        let a = exchange_three(&mut *t, &mut *u, n, j, n1, 1);
-        let b = exchange_three(&mut *t, &mut *u, n, j + 1, n1, 1);
+        let a = exchange_three_rows(&mut *t, &mut *u, n, j, n1, 1);
+        let b = exchange_three_rows(&mut *t, &mut *u, n, j + 1, n1, 1);
         return both(a, b);
     }
     exchange_whole(&mut *t, &mut *u, n, j, n1, n2)
 }
 
 // The exchange of two single rows.
-fn exchange_single(t: &mut [f64], u: &mut [f64], n: usize, j: usize) -> Counts
+fn exchange_two_rows(t: &mut [f64], u: &mut [f64], n: usize, j: usize) -> Counts
     requires { ⌜ Sized n (now t) × Beside n (now u) × (j + 2 ≤ n) ⌝ }
     ensures { λ r. ⌜ Step n (now (u .entry)) (now (t .exit)) (now (u .exit)) (r .swaps) (r .declined) (Exchange.exchange binary64 n n j 1 1 (now (t .entry))) × (r .swaps ≡ 1) × (r .declined ≡ 0) ⌝ }
 {
@@ -144,8 +144,8 @@ fn exchange_single(t: &mut [f64], u: &mut [f64], n: usize, j: usize) -> Counts
     }
 }
 
-// The same exchange as above, with no detour for two single rows.
-pub fn exchange_quick(
+// The same exchange: two single rows straight by their swap, all else as above.
+pub fn exchange_straight(
     t: &mut [f64],
     u: &mut [f64],
     n: usize,
@@ -157,7 +157,7 @@ pub fn exchange_quick(
     ensures { λ r. ⌜ Step n (now (u .entry)) (now (t .exit)) (now (u .exit)) (r .swaps) (r .declined) (Exchange.exchange binary64 n n j n1 n2 (now (t .entry))) × (r .swaps ≤ 4) × (r .declined ≤ 4) ⌝ }
 {
     if n1 + n2 == 2 {
-        return exchange_single(&mut *t, &mut *u, n, j);
+        return exchange_two_rows(&mut *t, &mut *u, n, j);
     }
     exchange(&mut *t, &mut *u, n, j, n1, n2)
 }

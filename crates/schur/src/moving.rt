@@ -5,8 +5,8 @@ ghost use mathlib.Core.List.{List};
 ghost use lib.Ieee.{Float, binary64};
 ghost use Rattle.model.specs.Move as Move;
 ghost use Rattle.form.specs.Run.{Sized, Beside, Rows};
-ghost use Rattle.schur.specs.Stands.{Stands, Way, Went, rows};
-use crate::exchange::exchange_quick;
+ghost use Rattle.schur.specs.Stands.{Takes, Way, Went, rows};
+use crate::exchange::exchange_straight;
 use form::blocks::size_above;
 use form::blocks::size_at;
 use form::blocks::zero_below;
@@ -31,10 +31,10 @@ fn exchanging(
     m: Moving,
 ) -> Moving
     requires { ⌜ Sized n (now t) × Beside n (now u) × Rows n j n1 n2 × (m .swaps ≤ 2000) × (m .declined ≤ 2000) ⌝ }
-    ensures stands { λ r. ⌜ ((u₀ : List Float) (M : Move.Moving) → Stands n u₀ (now (t .entry)) (now (u .entry)) (m .here) (m .nbf) (m .swaps) (m .declined) M → Stands n u₀ (now (t .exit)) (now (u .exit)) (r .here) (r .nbf) (r .swaps) (r .declined) (Move.exchanging binary64 n n j n1 n2 M)) ⌝ }
+    ensures stands { λ r. ⌜ Takes n (now (t .entry)) (now (u .entry)) m (now (t .exit)) (now (u .exit)) r (Move.exchanging binary64 n n j n1 n2) ⌝ }
     ensures counts { λ r. ⌜ (r .here ≡ m .here) × (r .nbf ≡ m .nbf) × (r .swaps ≤ m .swaps + 4) × (r .declined ≤ m .declined + 4) ⌝ }
 {
-    let c = exchange_quick(&mut *t, &mut *u, n, j, n1, n2);
+    let c = exchange_straight(&mut *t, &mut *u, n, j, n1, n2);
     Moving {
         here: m.here,
         nbf: m.nbf,
@@ -45,7 +45,7 @@ fn exchanging(
 
 // Arrived in a row.
 fn arrived(row: usize, m: Moving) -> Moving
-    ensures stands { λ r. ⌜ ((n : ℕ) (u₀ t u : List Float) (M : Move.Moving) → Stands n u₀ t u (m .here) (m .nbf) (m .swaps) (m .declined) M → Stands n u₀ t u (r .here) (r .nbf) (r .swaps) (r .declined) (Move.arrived row M)) ⌝ }
+    ensures stands { λ r. ⌜ ((n : ℕ) (t u : List Float) → Takes n t u m t u r (Move.arrived row)) ⌝ }
     ensures counts { λ r. ⌜ (r .here ≡ row) × (r .nbf ≡ m .nbf) × (r .swaps ≡ m .swaps) × (r .declined ≡ m .declined) ⌝ }
 {
     Moving {
@@ -59,7 +59,7 @@ fn arrived(row: usize, m: Moving) -> Moving
 // Arrived in a row, where a 2-block may have split.
 fn landed_whole(t: &[f64], n: usize, row: usize, m: Moving) -> Moving
     requires { ⌜ Sized n (now t) × (row + m .nbf ≤ n) × (1 ≤ m .nbf) × (m .nbf ≤ 2) ⌝ }
-    ensures stands { λ r. ⌜ ((u₀ u : List Float) (M : Move.Moving) → Stands n u₀ (now (t .entry)) u (m .here) (m .nbf) (m .swaps) (m .declined) M → Stands n u₀ (now (t .entry)) u (r .here) (r .nbf) (r .swaps) (r .declined) (Move.landedWhole binary64 n row M)) ⌝ }
+    ensures stands { λ r. ⌜ ((u : List Float) → Takes n (now (t .entry)) u m (now (t .entry)) u r (Move.landedWhole binary64 n row)) ⌝ }
     ensures counts { λ r. ⌜ (r .here ≡ row) × Went 0 (m .nbf) (m .swaps) (m .declined) (r .nbf) (r .swaps) (r .declined) ⌝ }
 {
     let nbf = m.nbf;
@@ -84,7 +84,7 @@ fn landed_whole(t: &[f64], n: usize, row: usize, m: Moving) -> Moving
 // One row or a 2-block, past the block below.
 fn down_whole(t: &mut [f64], u: &mut [f64], n: usize, m: Moving) -> Moving
     requires { ⌜ Sized n (now t) × Beside n (now u) × Way (m .nbf) (m .swaps) (m .declined) × (m .nbf ≤ 2) × (m .here + m .nbf + 1 ≤ n) ⌝ }
-    ensures stands { λ r. ⌜ ((u₀ : List Float) (M : Move.Moving) → Stands n u₀ (now (t .entry)) (now (u .entry)) (m .here) (m .nbf) (m .swaps) (m .declined) M → Stands n u₀ (now (t .exit)) (now (u .exit)) (r .here) (r .nbf) (r .swaps) (r .declined) (Move.downWhole binary64 n n M)) ⌝ }
+    ensures stands { λ r. ⌜ Takes n (now (t .entry)) (now (u .entry)) m (now (t .exit)) (now (u .exit)) r (Move.downWhole binary64 n n) ⌝ }
     ensures counts { λ r. ⌜ (m .here < r .here) × (r .here + m .nbf ≤ n) × Went 4 (m .nbf) (m .swaps) (m .declined) (r .nbf) (r .swaps) (r .declined) ⌝ }
 {
     let here = m.here;
@@ -97,7 +97,7 @@ fn down_whole(t: &mut [f64], u: &mut [f64], n: usize, m: Moving) -> Moving
 // Past a 2-block that the lower row has passed, and that may have split at that.
 fn down_past_two(t: &mut [f64], u: &mut [f64], n: usize, m: Moving) -> Moving
     requires { ⌜ Sized n (now t) × Beside n (now u) × (m .here + 4 ≤ n) × (m .swaps ≤ 1100) × (m .declined ≤ 1100) ⌝ }
-    ensures stands { λ r. ⌜ ((u₀ : List Float) (M : Move.Moving) → Stands n u₀ (now (t .entry)) (now (u .entry)) (m .here) (m .nbf) (m .swaps) (m .declined) M → Stands n u₀ (now (t .exit)) (now (u .exit)) (r .here) (r .nbf) (r .swaps) (r .declined) (Move.downPastTwo binary64 n n M)) ⌝ }
+    ensures stands { λ r. ⌜ Takes n (now (t .entry)) (now (u .entry)) m (now (t .exit)) (now (u .exit)) r (Move.downPastTwo binary64 n n) ⌝ }
     ensures counts { λ r. ⌜ (r .here ≡ m .here + 2) × (r .nbf ≡ m .nbf) × (r .swaps ≤ m .swaps + 8) × (r .declined ≤ m .declined + 8) ⌝ }
 {
     let here = m.here;
@@ -113,7 +113,7 @@ fn down_past_two(t: &mut [f64], u: &mut [f64], n: usize, m: Moving) -> Moving
 // Two rows, the lower first.
 fn down_apart(t: &mut [f64], u: &mut [f64], n: usize, m: Moving) -> Moving
     requires { ⌜ Sized n (now t) × Beside n (now u) × Way (m .nbf) (m .swaps) (m .declined) × (m .here + 3 ≤ n) ⌝ }
-    ensures stands { λ r. ⌜ ((u₀ : List Float) (M : Move.Moving) → Stands n u₀ (now (t .entry)) (now (u .entry)) (m .here) (m .nbf) (m .swaps) (m .declined) M → Stands n u₀ (now (t .exit)) (now (u .exit)) (r .here) (r .nbf) (r .swaps) (r .declined) (Move.downApart binary64 n n M)) ⌝ }
+    ensures stands { λ r. ⌜ Takes n (now (t .entry)) (now (u .entry)) m (now (t .exit)) (now (u .exit)) r (Move.downApart binary64 n n) ⌝ }
     ensures counts { λ r. ⌜ (m .here < r .here) × (r .here + 2 ≤ n) × (r .nbf ≡ m .nbf) × (r .swaps ≤ m .swaps + 12) × (r .declined ≤ m .declined + 12) ⌝ }
 {
     let here = m.here;
@@ -129,7 +129,7 @@ fn down_apart(t: &mut [f64], u: &mut [f64], n: usize, m: Moving) -> Moving
 // One step down.
 pub fn down_step(t: &mut [f64], u: &mut [f64], n: usize, m: Moving) -> Moving
     requires { ⌜ Sized n (now t) × Beside n (now u) × Way (m .nbf) (m .swaps) (m .declined) × (m .here + rows (m .nbf) + 1 ≤ n) ⌝ }
-    ensures stands { λ r. ⌜ ((u₀ : List Float) (M : Move.Moving) → Stands n u₀ (now (t .entry)) (now (u .entry)) (m .here) (m .nbf) (m .swaps) (m .declined) M → Stands n u₀ (now (t .exit)) (now (u .exit)) (r .here) (r .nbf) (r .swaps) (r .declined) (Move.downStep binary64 n n M)) ⌝ }
+    ensures stands { λ r. ⌜ Takes n (now (t .entry)) (now (u .entry)) m (now (t .exit)) (now (u .exit)) r (Move.downStep binary64 n n) ⌝ }
     ensures counts { λ r. ⌜ (m .here < r .here) × (r .here + rows (m .nbf) ≤ n) × Went 12 (m .nbf) (m .swaps) (m .declined) (r .nbf) (r .swaps) (r .declined) ⌝ }
 {
     if m.nbf == 3 {
@@ -141,7 +141,7 @@ pub fn down_step(t: &mut [f64], u: &mut [f64], n: usize, m: Moving) -> Moving
 // One row or a 2-block, past the block above.
 fn up_whole(t: &mut [f64], u: &mut [f64], n: usize, m: Moving) -> Moving
     requires { ⌜ Sized n (now t) × Beside n (now u) × Way (m .nbf) (m .swaps) (m .declined) × (m .nbf ≤ 2) × (0 < m .here) × (m .here + m .nbf ≤ n) ⌝ }
-    ensures stands { λ r. ⌜ ((u₀ : List Float) (M : Move.Moving) → Stands n u₀ (now (t .entry)) (now (u .entry)) (m .here) (m .nbf) (m .swaps) (m .declined) M → Stands n u₀ (now (t .exit)) (now (u .exit)) (r .here) (r .nbf) (r .swaps) (r .declined) (Move.upWhole binary64 n n M)) ⌝ }
+    ensures stands { λ r. ⌜ Takes n (now (t .entry)) (now (u .entry)) m (now (t .exit)) (now (u .exit)) r (Move.upWhole binary64 n n) ⌝ }
     ensures counts { λ r. ⌜ (r .here < m .here) × Went 4 (m .nbf) (m .swaps) (m .declined) (r .nbf) (r .swaps) (r .declined) ⌝ }
 {
     let here = m.here;
@@ -154,7 +154,7 @@ fn up_whole(t: &mut [f64], u: &mut [f64], n: usize, m: Moving) -> Moving
 // Past a 2-block that the upper row has passed, and that may have split at that.
 fn up_past_two(t: &mut [f64], u: &mut [f64], n: usize, m: Moving) -> Moving
     requires { ⌜ Sized n (now t) × Beside n (now u) × (2 ≤ m .here) × (m .here + 2 ≤ n) × (m .swaps ≤ 1100) × (m .declined ≤ 1100) ⌝ }
-    ensures stands { λ r. ⌜ ((u₀ : List Float) (M : Move.Moving) → Stands n u₀ (now (t .entry)) (now (u .entry)) (m .here) (m .nbf) (m .swaps) (m .declined) M → Stands n u₀ (now (t .exit)) (now (u .exit)) (r .here) (r .nbf) (r .swaps) (r .declined) (Move.upPastTwo binary64 n n M)) ⌝ }
+    ensures stands { λ r. ⌜ Takes n (now (t .entry)) (now (u .entry)) m (now (t .exit)) (now (u .exit)) r (Move.upPastTwo binary64 n n) ⌝ }
     ensures counts { λ r. ⌜ (r .here ≡ m .here - 2) × (r .nbf ≡ m .nbf) × (r .swaps ≤ m .swaps + 8) × (r .declined ≤ m .declined + 8) ⌝ }
 {
     let here = m.here;
@@ -170,7 +170,7 @@ fn up_past_two(t: &mut [f64], u: &mut [f64], n: usize, m: Moving) -> Moving
 // Two rows, the upper first.
 fn up_apart(t: &mut [f64], u: &mut [f64], n: usize, m: Moving) -> Moving
     requires { ⌜ Sized n (now t) × Beside n (now u) × Way (m .nbf) (m .swaps) (m .declined) × (0 < m .here) × (m .here + 2 ≤ n) ⌝ }
-    ensures stands { λ r. ⌜ ((u₀ : List Float) (M : Move.Moving) → Stands n u₀ (now (t .entry)) (now (u .entry)) (m .here) (m .nbf) (m .swaps) (m .declined) M → Stands n u₀ (now (t .exit)) (now (u .exit)) (r .here) (r .nbf) (r .swaps) (r .declined) (Move.upApart binary64 n n M)) ⌝ }
+    ensures stands { λ r. ⌜ Takes n (now (t .entry)) (now (u .entry)) m (now (t .exit)) (now (u .exit)) r (Move.upApart binary64 n n) ⌝ }
     ensures counts { λ r. ⌜ (r .here < m .here) × (r .nbf ≡ m .nbf) × (r .swaps ≤ m .swaps + 12) × (r .declined ≤ m .declined + 12) ⌝ }
 {
     let here = m.here;
@@ -186,7 +186,7 @@ fn up_apart(t: &mut [f64], u: &mut [f64], n: usize, m: Moving) -> Moving
 // One step up.
 pub fn up_step(t: &mut [f64], u: &mut [f64], n: usize, m: Moving) -> Moving
     requires { ⌜ Sized n (now t) × Beside n (now u) × Way (m .nbf) (m .swaps) (m .declined) × (0 < m .here) × (m .here + rows (m .nbf) ≤ n) ⌝ }
-    ensures stands { λ r. ⌜ ((u₀ : List Float) (M : Move.Moving) → Stands n u₀ (now (t .entry)) (now (u .entry)) (m .here) (m .nbf) (m .swaps) (m .declined) M → Stands n u₀ (now (t .exit)) (now (u .exit)) (r .here) (r .nbf) (r .swaps) (r .declined) (Move.upStep binary64 n n M)) ⌝ }
+    ensures stands { λ r. ⌜ Takes n (now (t .entry)) (now (u .entry)) m (now (t .exit)) (now (u .exit)) r (Move.upStep binary64 n n) ⌝ }
     ensures counts { λ r. ⌜ (r .here < m .here) × Went 12 (m .nbf) (m .swaps) (m .declined) (r .nbf) (r .swaps) (r .declined) ⌝ }
 {
     if m.nbf == 3 {

@@ -6,7 +6,7 @@ ghost use mathlib.Core.List.{List};
 ghost use lib.Ieee.{Float, binary64};
 ghost use Rattle.model.specs.Move as Move;
 ghost use Rattle.form.specs.Run.{Sized, Beside};
-ghost use Rattle.schur.specs.Stands.{Stands, Way, rows};
+ghost use Rattle.schur.specs.Stands.{Stands, Takes, Way, rows};
 ghost use Rattle.schur.specs.View.{moved};
 use crate::moving::Moving;
 use crate::moving::down_step;
@@ -18,7 +18,7 @@ use form::lines::move_line;
 // Down until the goal is reached.
 fn move_down(t: &mut [f64], u: &mut [f64], n: usize, goal: usize, m: Moving) -> Moving
     requires { ⌜ Sized n (now t) × Beside n (now u) × Way (m .nbf) (m .swaps) (m .declined) × (goal + rows (m .nbf) ≤ n) × (m .swaps ≤ 12 * m .here) × (m .declined ≤ 12 * m .here) ⌝ }
-    ensures { λ r. ⌜ ((u₀ : List Float) (M : Move.Moving) → Stands n u₀ (now (t .entry)) (now (u .entry)) (m .here) (m .nbf) (m .swaps) (m .declined) M → Stands n u₀ (now (t .exit)) (now (u .exit)) (r .here) (r .nbf) (r .swaps) (r .declined) (Move.downBy n binary64 n n goal M)) ⌝ }
+    ensures { λ r. ⌜ Takes n (now (t .entry)) (now (u .entry)) m (now (t .exit)) (now (u .exit)) r (Move.downBy n binary64 n n goal) ⌝ }
 {
     let mut on = m;
     while on.here < goal {
@@ -30,7 +30,7 @@ fn move_down(t: &mut [f64], u: &mut [f64], n: usize, goal: usize, m: Moving) -> 
 // Up until the goal is reached.
 fn move_up(t: &mut [f64], u: &mut [f64], n: usize, goal: usize, m: Moving) -> Moving
     requires { ⌜ Sized n (now t) × Beside n (now u) × Way (m .nbf) (m .swaps) (m .declined) × (m .here + rows (m .nbf) ≤ n) × (m .swaps + 12 * m .here ≤ 12 * n) × (m .declined + 12 * m .here ≤ 12 * n) ⌝ }
-    ensures { λ r. ⌜ ((u₀ : List Float) (M : Move.Moving) → Stands n u₀ (now (t .entry)) (now (u .entry)) (m .here) (m .nbf) (m .swaps) (m .declined) M → Stands n u₀ (now (t .exit)) (now (u .exit)) (r .here) (r .nbf) (r .swaps) (r .declined) (Move.upBy n binary64 n n goal M)) ⌝ }
+    ensures { λ r. ⌜ Takes n (now (t .entry)) (now (u .entry)) m (now (t .exit)) (now (u .exit)) r (Move.upBy n binary64 n n goal) ⌝ }
 {
     let mut on = m;
     while goal < on.here {

@@ -25,7 +25,7 @@ struct Complex {
 
 // The product.
 fn times(x: Complex, y: Complex) -> Complex
-    ensures { λ r. ⌜ complex r ≡ Vectors.times binary64 (complex x) (complex y) ⌝ }
+    ensures { λ r. ⌜ complex r ≡ Vectors.complexTimes binary64 (complex x) (complex y) ⌝ }
 {
     Complex {
         re: x.re * y.re - x.im * y.im,

@@ -5,7 +5,7 @@ use mathlib.Core.List.{List}
 use lib.Ieee.{Float, binary64}
 use Rattle.model.specs.Columns.{onFactor}
 use Rattle.model.specs.Exchange.{factorRows}
-use Rattle.model.specs.Swaps.{Change}
+use Rattle.model.specs.Swaps.{Change, swapsOf, declinedOf}
 
 -- With u for the factor at entry, form and factor are now t₁ and u₁, what the change makes of them.
 pub record Done (n : ℕ) (u t₁ u₁ : List Float) (c : Change) : Type 0 where
@@ -15,5 +15,5 @@ pub record Done (n : ℕ) (u t₁ u₁ : List Float) (c : Change) : Type 0 where
 -- the same with counts of swaps and declines
 pub record Step (n : ℕ) (u t₁ u₁ : List Float) (swaps₁ declined₁ : ℕ) (c : Change) : Type 0 where
   pub done : Done n u t₁ u₁ c
-  pub swaps : swaps₁ ≡ c .swaps
-  pub declined : declined₁ ≡ c .declined
+  pub swaps : swaps₁ ≡ swapsOf c
+  pub declined : declined₁ ≡ declinedOf c

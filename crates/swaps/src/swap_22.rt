@@ -197,7 +197,7 @@ fn form_22(t: &mut [f64], n: usize, j: usize, v: Reflectors4)
 // touches neither form nor factor.
 pub fn schur_swap_22(t: &mut [f64], u: &mut [f64], n: usize, j: usize) -> usize
     requires { ⌜ Sized n (now t) × Beside n (now u) × (j + 4 ≤ n) ⌝ }
-    ensures { λ r. ⌜ Done n (now (u .entry)) (now (t .exit)) (now (u .exit)) (Swaps.swap22 binary64 n n j (now (t .entry))) × (r ≡ Swaps.swap22 binary64 n n j (now (t .entry)) .declined) × (r ≤ 1) ⌝ }
+    ensures { λ r. ⌜ Done n (now (u .entry)) (now (t .exit)) (now (u .exit)) (Swaps.swap22 binary64 n n j (now (t .entry))) × (r ≡ Swaps.declinedOf (Swaps.swap22 binary64 n n j (now (t .entry)))) × (r ≤ 1) ⌝ }
 {
     let w = window_at(&*t, n, j);
     let v = reflectors_4(solution_of(w));

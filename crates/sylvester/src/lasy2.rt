@@ -246,7 +246,7 @@ fn too_large(t: [[f64; 4]; 4], b: [f64; 4]) -> bool
 
 // Each number times k.
 fn times(b: [f64; 4], k: f64) -> [f64; 4]
-    ensures { λ r. ⌜ r ≡ Lasy2.times binary64 b k ⌝ }
+    ensures { λ r. ⌜ r ≡ Lasy2.scaledBy binary64 b k ⌝ }
 {
     [b[0] * k, b[1] * k, b[2] * k, b[3] * k]
 }

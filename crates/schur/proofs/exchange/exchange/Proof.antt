@@ -14,21 +14,21 @@ use Rattle.schur.proofs.exchange.exchange.Tie as tie
 apart-requires : tie.Need-apart-requires
 apart-requires c κs = search needs
 
-add-exchange-three : tie.Need-add-exchange-three
-add-exchange-three c = search needs
+add-exchange-three-rows : tie.Need-add-exchange-three-rows
+add-exchange-three-rows c = search needs
 
-exchange-three-requires : tie.Need-exchange-three-requires
-exchange-three-requires c κs =
+exchange-three-rows-requires : tie.Need-exchange-three-rows-requires
+exchange-three-rows-requires c κs =
     let c1 = c .before .before in
     let c2 = c1 .before in
     let c3 = c2 .before .before .before .before in
     let h = c3 .pre in let r = h .2 in let q = c3 .args in let e = is-two binary64 (q .n) (q .n1) (q .j) (q .t .now) (sym (c2 .apart .ensures) ∙ c1 .if1 .taken) in (h .0, h .1, lower-row r e, three-below r)
 
-exchange-three-requires-2 : tie.Need-exchange-three-requires-2
-exchange-three-requires-2 c κs =
+exchange-three-rows-requires-2 : tie.Need-exchange-three-rows-requires-2
+exchange-three-rows-requires-2 c κs =
     let c1 = c .before .before .before .before .before .before in
     let c2 = c1 .before .before .before .before .before .before .before .before in
-    let h = c2 .pre in let r = h .2 in let k = c1 .exchange-three .kept in (resized (h .0) (k .0), still (h .1) (k .1 .0), upper-row r, three-below r)
+    let h = c2 .pre in let r = h .2 in let k = c1 .exchange-three-rows .kept in (resized (h .0) (k .0), still (h .1) (k .1 .0), upper-row r, three-below r)
 
 both-requires : tie.Need-both-requires
 both-requires c κs = search needs
@@ -46,7 +46,7 @@ returns c =
     let c3 = c2 .before .before .before in
     let c4 = c3 .before in
     let c5 = c4 .before .before .before .before in
-    let h = c5 .pre in let r = h .2 in let q = c5 .args in let e = is-two binary64 (q .n) (q .n1) (q .j) (q .t .now) (sym (c4 .apart .ensures) ∙ c3 .if1 .taken) in let x = c2 .exchange-three in let y = c1 .exchange-three2 in let b = c .both .ensures in (upper-step _ _ _ _ _ (sym (c4 .apart .ensures) ∙ c3 .if1 .taken) (c2 .exchange-three .ensures .0) (x .kept .1 .0) (c1 .exchange-three2 .ensures .0) b, omega (arith, x .ensures .1, y .ensures .1, x .ensures .2, y .ensures .2, b), omega (arith, x .ensures .1, y .ensures .1, x .ensures .2, y .ensures .2, b))
+    let h = c5 .pre in let r = h .2 in let q = c5 .args in let e = is-two binary64 (q .n) (q .n1) (q .j) (q .t .now) (sym (c4 .apart .ensures) ∙ c3 .if1 .taken) in let x = c2 .exchange-three-rows in let y = c1 .exchange-three-rows2 in let b = c .both .ensures in (upper-step _ _ _ _ _ (sym (c4 .apart .ensures) ∙ c3 .if1 .taken) (c2 .exchange-three-rows .ensures .0) (x .kept .1 .0) (c1 .exchange-three-rows2 .ensures .0) b, omega (arith, x .ensures .1, y .ensures .1, x .ensures .2, y .ensures .2, b), omega (arith, x .ensures .1, y .ensures .1, x .ensures .2, y .ensures .2, b))
 
 add-apart : tie.Need-add-apart
 add-apart c = search needs
@@ -54,19 +54,19 @@ add-apart c = search needs
 apart-requires-2 : tie.Need-apart-requires-2
 apart-requires-2 c κs = search needs
 
-exchange-three-requires-3 : tie.Need-exchange-three-requires-3
-exchange-three-requires-3 c κs = search needs
+exchange-three-rows-requires-3 : tie.Need-exchange-three-rows-requires-3
+exchange-three-rows-requires-3 c κs = search needs
 
-add-exchange-three-2 : tie.Need-add-exchange-three-2
-add-exchange-three-2 c = search needs
+add-exchange-three-rows-2 : tie.Need-add-exchange-three-rows-2
+add-exchange-three-rows-2 c = search needs
 
-exchange-three-requires-4 : tie.Need-exchange-three-requires-4
-exchange-three-requires-4 c κs =
+exchange-three-rows-requires-4 : tie.Need-exchange-three-rows-requires-4
+exchange-three-rows-requires-4 c κs =
     let c1 = c .before .before .before .before .before .before in
     let c2 = c1 .before .before .before in
     let c3 = c2 .before in
     let c4 = c3 .before .before .before .before .before .before .before in
-    let h = c4 .pre in let r = h .2 in let k = c1 .exchange-three3 .kept in let q = c4 .args in let e = is-two binary64 (q .n) (q .n2) (q .j + q .n1) (q .t .now) (sym (c3 .apart2 .ensures) ∙ c2 .if2 .taken) in (resized (h .0) (k .0), still (h .1) (k .1 .0), lower-of-two r e, three-above r)
+    let h = c4 .pre in let r = h .2 in let k = c1 .exchange-three-rows3 .kept in let q = c4 .args in let e = is-two binary64 (q .n) (q .n2) (q .j + q .n1) (q .t .now) (sym (c3 .apart2 .ensures) ∙ c2 .if2 .taken) in (resized (h .0) (k .0), still (h .1) (k .1 .0), lower-of-two r e, three-above r)
 
 both-requires-2 : tie.Need-both-requires-2
 both-requires-2 c κs = search needs
@@ -86,7 +86,7 @@ returns-2 c =
     let c5 = c4 .before .before in
     let c6 = c5 .before in
     let c7 = c6 .before .before .before .before in
-    let h = c7 .pre in let r = h .2 in let q = c7 .args in let e = is-two binary64 (q .n) (q .n2) (q .j + q .n1) (q .t .now) (sym (c4 .apart2 .ensures) ∙ c3 .if2 .taken) in let x = c2 .exchange-three3 in let y = c1 .exchange-three4 in let b = c .both2 .ensures in (lower-step _ _ _ _ _ (sym (c6 .apart .ensures) ∙ c5 .if1 .left) (sym (c4 .apart2 .ensures) ∙ c3 .if2 .taken) (c2 .exchange-three3 .ensures .0) (x .kept .1 .0) (c1 .exchange-three4 .ensures .0) b, omega (arith, x .ensures .1, y .ensures .1, x .ensures .2, y .ensures .2, b), omega (arith, x .ensures .1, y .ensures .1, x .ensures .2, y .ensures .2, b))
+    let h = c7 .pre in let r = h .2 in let q = c7 .args in let e = is-two binary64 (q .n) (q .n2) (q .j + q .n1) (q .t .now) (sym (c4 .apart2 .ensures) ∙ c3 .if2 .taken) in let x = c2 .exchange-three-rows3 in let y = c1 .exchange-three-rows4 in let b = c .both2 .ensures in (lower-step _ _ _ _ _ (sym (c6 .apart .ensures) ∙ c5 .if1 .left) (sym (c4 .apart2 .ensures) ∙ c3 .if2 .taken) (c2 .exchange-three-rows3 .ensures .0) (x .kept .1 .0) (c1 .exchange-three-rows4 .ensures .0) b, omega (arith, x .ensures .1, y .ensures .1, x .ensures .2, y .ensures .2, b), omega (arith, x .ensures .1, y .ensures .1, x .ensures .2, y .ensures .2, b))
 
 exchange-whole-requires : tie.Need-exchange-whole-requires
 exchange-whole-requires c κs = search needs
@@ -112,18 +112,18 @@ exchange-spec =
     tie.close
     (tie.spec
     apart-requires
-    add-exchange-three
-    exchange-three-requires
-    exchange-three-requires-2
+    add-exchange-three-rows
+    exchange-three-rows-requires
+    exchange-three-rows-requires-2
     both-requires
     same-length
     same-length-2
     returns
     add-apart
     apart-requires-2
-    exchange-three-requires-3
-    add-exchange-three-2
-    exchange-three-requires-4
+    exchange-three-rows-requires-3
+    add-exchange-three-rows-2
+    exchange-three-rows-requires-4
     both-requires-2
     same-length-3
     same-length-4

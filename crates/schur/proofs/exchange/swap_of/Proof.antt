@@ -1,6 +1,6 @@
 -- `schur::exchange::swap_of` meets its contract. Assumes nothing.
 use Rattle.swaps.proofs.Steps.{one-swap}
-use Rattle.model.specs.Swaps.{swapOf, swap11, swap12, swap21}
+use Rattle.model.specs.Swaps.{declinesIn, swapOf, swap11, swap12, swap21}
 use mathlib.Core.Path.{refl, sym}
 use lib.Dec.{lit≤}
 use borrow.Author.Tests.{eq-eqb, ne-eqb}
@@ -18,7 +18,7 @@ same-length-2 : tie.Need-same-length-2
 same-length-2 c = search needs
 
 returns : tie.Need-returns
-unfolding swapOf swap11
+unfolding swapOf swap11 declinesIn
 returns c =
     let a = c .before .before .before .before in
     let b = a .before .before .before in
@@ -35,7 +35,7 @@ same-length-4 : tie.Need-same-length-4
 same-length-4 c = search needs
 
 returns-2 : tie.Need-returns-2
-unfolding swapOf swap12
+unfolding swapOf swap12 declinesIn
 returns-2 c =
     let a = c .before .before .before .before in
     let b = a .before .before .before in
@@ -52,7 +52,7 @@ same-length-6 : tie.Need-same-length-6
 same-length-6 c = search needs
 
 returns-3 : tie.Need-returns-3
-unfolding swapOf swap21
+unfolding swapOf swap21 declinesIn
 returns-3 c =
     let a = c .before .before .before .before in
     let b = a .before .before .before in
@@ -69,7 +69,7 @@ same-length-8 : tie.Need-same-length-8
 same-length-8 c = search needs
 
 returns-4 : tie.Need-returns-4
-unfolding swapOf
+unfolding swapOf declinesIn
 returns-4 c =
     let a = c .before .before .before .before in
     let b = a .before .before .before in

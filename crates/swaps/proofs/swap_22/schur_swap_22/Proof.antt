@@ -2,7 +2,7 @@
 use lib.Dec.{lit≤}
 use native.Mathlib.Omega.{arith}
 use Rattle.model.specs.Columns.{onFactor}
-use Rattle.model.specs.Swaps.{swap22, swap22By}
+use Rattle.model.specs.Swaps.{declinesIn, swap22, swap22By}
 use mathlib.Core.Path.{refl}
 use borrow.Author.Needs.{needs}
 use Rattle.swaps.proofs.swap_22.schur_swap_22.Statement.{statement}
@@ -24,7 +24,7 @@ same-length : tie.Need-same-length
 same-length c = search needs
 
 returns : tie.Need-returns
-unfolding swap22 onFactor
+unfolding swap22 onFactor declinesIn
 returns c =
     let a = c .before in
     let b = a .before in
@@ -56,7 +56,7 @@ same-length-3 : tie.Need-same-length-3
 same-length-3 c = search needs
 
 returns-2 : tie.Need-returns-2
-unfolding swap22 swap22By onFactor
+unfolding swap22 swap22By onFactor declinesIn
 returns-2 c =
     let a = c .before .before in
     let b = a .before .before .before .before in

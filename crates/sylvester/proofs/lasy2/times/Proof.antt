@@ -1,7 +1,7 @@
 -- `linalg::lasy2::times` meets its contract. Assumes nothing.
 use borrow.Author.Needs.{needs}
 use mathlib.Core.Path.{refl}
-use Rattle.model.specs.Lasy2.{times}
+use Rattle.model.specs.Lasy2.{scaledBy}
 use Rattle.sylvester.proofs.lasy2.times.Statement.{statement}
 use Rattle.sylvester.proofs.lasy2.times.Tie as tie
 
@@ -18,7 +18,7 @@ array-read-t18 : tie.Need-array-read-t18
 array-read-t18 c = search needs
 
 returns : tie.Need-returns
-unfolding times
+unfolding scaledBy
 returns c = refl
 
 pub times-spec : {M : Type 1} → statement M

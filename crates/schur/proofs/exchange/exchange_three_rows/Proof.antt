@@ -1,4 +1,4 @@
--- `schur::exchange::exchange_three` meets its contract. Assumes nothing.
+-- `schur::exchange::exchange_three_rows` meets its contract. Assumes nothing.
 use Rattle.schur.proofs.Exchanges.{is-two, upper-step, lower-step, none-apart, single, seen-as, lower-row, upper-row, upper-of-two, lower-of-two, three-below, three-above, other-one, first-one}
 use Rattle.form.proofs.Runs.{resized, still}
 use lib.Ieee.{binary64}
@@ -8,8 +8,8 @@ use lib.Dec.{lit≤}
 use native.Mathlib.Omega.{arith}
 use Prim.Native.Nat.{_+_}
 use borrow.Author.Needs.{needs}
-use Rattle.schur.proofs.exchange.exchange_three.Statement.{statement}
-use Rattle.schur.proofs.exchange.exchange_three.Tie as tie
+use Rattle.schur.proofs.exchange.exchange_three_rows.Statement.{statement}
+use Rattle.schur.proofs.exchange.exchange_three_rows.Tie as tie
 
 apart-requires : tie.Need-apart-requires
 apart-requires c κs = search needs
@@ -107,8 +107,8 @@ returns-3 c =
     let c6 = c5 .before .before .before .before in
     let h = c6 .pre in let w = c1 .exchange-whole5 .ensures in (seen-as (sym (none-apart binary64 _ _ _ _ _ _ (h .2 .one1) (sym (c5 .apart .ensures) ∙ c4 .if1 .left) (sym (c3 .apart2 .ensures) ∙ c2 .if2 .left))) (w .0), omega (arith, w .1), omega (arith, w .2))
 
-pub exchange-three-spec : {M : Type 1} → statement M
-exchange-three-spec =
+pub exchange-three-rows-spec : {M : Type 1} → statement M
+exchange-three-rows-spec =
     tie.close
     (tie.spec
     apart-requires

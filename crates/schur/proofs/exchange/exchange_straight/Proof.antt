@@ -1,11 +1,11 @@
--- `schur::exchange::exchange_quick` meets its contract. Assumes nothing.
+-- `schur::exchange::exchange_straight` meets its contract. Assumes nothing.
 use mathlib.Core.Path.{_≡_}
 use Prim.Native.Nat.{ℕ, _+_, _≤_}
 use native.Mathlib.Omega.{arith}
 use Rattle.form.specs.Run.{Rows}
 use borrow.Author.Needs.{needs}
-use Rattle.schur.proofs.exchange.exchange_quick.Statement.{statement}
-use Rattle.schur.proofs.exchange.exchange_quick.Tie as tie
+use Rattle.schur.proofs.exchange.exchange_straight.Statement.{statement}
+use Rattle.schur.proofs.exchange.exchange_straight.Tie as tie
 
 first : {n j n1 n2 : ℕ} → Rows n j n1 n2 → n1 + n2 ≡ 2 → n1 ≡ 1
 first r e = let a = r .one1 in let b = r .one2 in omega arith
@@ -16,8 +16,8 @@ second r e = let a = r .one1 in let b = r .one2 in omega arith
 add-if1 : tie.Need-add-if1
 add-if1 c = search needs
 
-exchange-single-requires : tie.Need-exchange-single-requires
-exchange-single-requires c κs = search needs
+exchange-two-rows-requires : tie.Need-exchange-two-rows-requires
+exchange-two-rows-requires c κs = search needs
 
 same-length : tie.Need-same-length
 same-length c = search needs
@@ -27,7 +27,7 @@ same-length-2 c = search needs
 
 returns : tie.Need-returns
 returns c =
-    let x = c .before .before .before .before .exchange-single .ensures in
+    let x = c .before .before .before .before .exchange-two-rows .ensures in
     let i = c .before .before .before .before .before .before .before in
     let r = i .before .before .before .pre .2 in
     rw (first r (i .if1 .taken), second r (i .if1 .taken)) (x .0, omega (arith, x .1), omega (arith, x .2))
@@ -44,12 +44,12 @@ same-length-4 c = search needs
 returns-2 : tie.Need-returns-2
 returns-2 c = search needs
 
-pub exchange-quick-spec : {M : Type 1} → statement M
-exchange-quick-spec =
+pub exchange-straight-spec : {M : Type 1} → statement M
+exchange-straight-spec =
     tie.close
     (tie.spec
     add-if1
-    exchange-single-requires
+    exchange-two-rows-requires
     same-length
     same-length-2
     returns
