@@ -9,7 +9,8 @@ use lib.Dec.{eqb, ltb}
 use lib.ListN.{length}
 use lib.Ieee.{Float, Format}
 use Rattle.model.specs.Form.{line2, line3, line5, line6, formLine}
-use Rattle.model.specs.Values.{furtherLine}
+use Rattle.model.specs.Values.{Parts, valuesLine}
+use Rattle.evd.specs.Further.{furtherLine}
 
 -- the first line of a form by itself, and with a further buffer
 abbrev alone : Bool → Bool → Bool → Bool → ℕ
@@ -32,6 +33,16 @@ pub further : (f : Format) (ld n : ℕ) (t : List Float) (wrong : Bool)
     → furtherLine f ld n t wrong ≡ cond (eqb (formLine f ld n t) 2) 2 (cond (eqb (formLine f ld n t) 3) 3 (cond wrong 4 (formLine f ld n t)))
 unfolding furtherLine formLine
 further f ld n t wrong = among (line2 n) (line3 ld n t) wrong (line5 f ld n t) (line6 f ld n t)
+
+-- two buffers, of which one or both have a wrong length
+joined : (a b : Bool) (rest : ℕ) → cond (a || b) 4 rest ≡ cond a 4 (cond b 4 rest)
+joined true b rest = refl
+joined false b rest = refl
+
+pub two-buffers : (f : Format) (ld n : ℕ) (t : List Float) (s : Parts)
+    → furtherLine f ld n t (not (eqb (length (s .re)) n) || not (eqb (length (s .im)) n)) ≡ valuesLine f ld n t s
+unfolding furtherLine valuesLine
+two-buffers f ld n t s = rw (joined (not (eqb (length (s .re)) n)) (not (eqb (length (s .im)) n)))
 
 -- ---- line 2 does not apply
 

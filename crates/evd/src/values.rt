@@ -6,6 +6,7 @@ ghost use lib.Dec.{eqb};
 ghost use lib.ListN.{length};
 ghost use lib.Ieee.{binary64};
 ghost use Rattle.model.specs.Values as Values;
+ghost use Rattle.evd.specs.Further.{furtherLine};
 ghost use Rattle.solve.specs.Sizes.{Whole};
 use form::form_line;
 use form::place;
@@ -62,9 +63,9 @@ fn all_values(ld: usize, n: usize, t: &[f64], re: &mut [f64], im: &mut [f64])
     }
 }
 
-// The first line that applies to a form and buffers of so many numbers, or 0.
+// The first line that applies to a form and two buffers of so many numbers, or 0.
 fn values_line(n: usize, t: &[f64], re_len: usize, im_len: usize) -> usize
-    ensures { λ r. ⌜ r ≡ Values.furtherLine binary64 n n (now (t .entry)) (not (eqb «re_len» n) || not (eqb «im_len» n)) ⌝ }
+    ensures { λ r. ⌜ r ≡ furtherLine binary64 n n (now (t .entry)) (not (eqb «re_len» n) || not (eqb «im_len» n)) ⌝ }
 {
     with_further(form_line(n, t), (re_len != n) | (im_len != n))
 }

@@ -5,10 +5,11 @@ ghost use Prim.Native.Nat.{_+_, _*_, _<_, _≤_};
 ghost use lib.Dec.{eqb};
 ghost use lib.ListN.{length};
 ghost use lib.Ieee.{binary64};
-ghost use Rattle.model.specs.Values.{furtherLine, sizeAt};
+ghost use Rattle.model.specs.Values.{imagSizeAt};
 ghost use Rattle.model.specs.Vectors as Vectors;
 ghost use Rattle.solve.specs.Sizes.{Square, Whole};
 ghost use Rattle.evd.specs.View.{start};
+ghost use Rattle.evd.specs.Further.{furtherLine};
 use arith::real::abs;
 use arith::real::abs1;
 use form::form_line;
@@ -146,7 +147,7 @@ fn solve_columns(ld: usize, k: usize, t: &[f64], p: f64, q: f64, norm: f64, s: u
 // A 2-block's columns j and j + 1, before the rows above it are solved for; its imaginary size.
 fn open_columns(ld: usize, n: usize, t: &[f64], j: usize, v: &mut [f64]) -> f64
     requires { ⌜ Whole (now t) ld n × (length (now v) ≡ ld * n) × (j + 1 < n) ⌝ }
-    ensures { λ r. ⌜ (r ≡ sizeAt binary64 ld (now (t .entry)) j) × (now (v .exit) ≡ Vectors.openColumns binary64 ld (now (t .entry)) j (now (v .entry))) ⌝ }
+    ensures { λ r. ⌜ (r ≡ imagSizeAt binary64 ld (now (t .entry)) j) × (now (v .exit) ≡ Vectors.openColumns binary64 ld (now (t .entry)) j (now (v .entry))) ⌝ }
 {
     let b = t[place(ld, n, j, j + 1)];
     let c = t[place(ld, n, j + 1, j)];

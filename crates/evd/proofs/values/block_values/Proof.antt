@@ -6,8 +6,8 @@ use borrow.Author.Tests.{eq-eqb, ne-eqb, eqb-true, not-false}
 use lib.Dec.{eqb}
 use lib.ListN.{length}
 use lib.Ieee.{binary64}
-use Rattle.model.specs.Values.{valuesLine, blockValues}
-use Rattle.evd.proofs.Lines.{first, second, accepted}
+use Rattle.model.specs.Values.{blockValues}
+use Rattle.evd.proofs.Lines.{first, second, accepted, two-buffers}
 use borrow.Author.Needs.{needs}
 use Rattle.evd.proofs.values.block_values.Statement.{statement}
 use Rattle.evd.proofs.values.block_values.Tie as tie
@@ -16,8 +16,8 @@ values-line-requires : tie.Need-values-line-requires
 values-line-requires c κs = search needs
 
 returns : tie.Need-returns
-unfolding blockValues valuesLine
-returns c = rw (← c .before .values-line .ensures, ne-eqb _ _ (c .if1 .taken))
+unfolding blockValues
+returns c = rw (← two-buffers, ← c .before .values-line .ensures, ne-eqb _ _ (c .if1 .taken))
 
 all-values-requires : tie.Need-all-values-requires
 all-values-requires c κs =
@@ -39,12 +39,12 @@ same-length-2 : tie.Need-same-length-2
 same-length-2 c = search needs
 
 returns-2 : tie.Need-returns-2
-unfolding blockValues valuesLine
+unfolding blockValues
 returns-2 c =
     let w = c .before .before .before .before in
     let i = w .before .before .before in
     let l = i .before in
-    rw (← l .values-line .ensures, eq-eqb _ _ (i .if1 .left), w .all-values .ensures)
+    rw (← two-buffers, ← l .values-line .ensures, eq-eqb _ _ (i .if1 .left), w .all-values .ensures)
 
 pub block-values-spec : {M : Type 1} → statement M
 block-values-spec =

@@ -4,6 +4,7 @@ use native.Mathlib.Omega.{arith}
 use borrow.Author.Tests.{eq-eqb, ne-eqb, eqb-true, not-false}
 use lib.Ieee.{binary64}
 use Rattle.model.specs.Vectors.{vectorsLine, evdFromRealSchur}
+use Rattle.evd.specs.Further.{furtherLine}
 use Rattle.evd.proofs.Lines.{accepted}
 use borrow.Author.Needs.{needs}
 use Rattle.evd.proofs.vectors.evd_from_real_schur.Statement.{statement}
@@ -13,7 +14,7 @@ vectors-line-requires : tie.Need-vectors-line-requires
 vectors-line-requires c κs = search needs
 
 returns : tie.Need-returns
-unfolding evdFromRealSchur vectorsLine
+unfolding evdFromRealSchur vectorsLine furtherLine
 returns c = rw (← c .before .vectors-line .ensures, ne-eqb _ _ (c .if1 .taken))
 
 all-columns-requires : tie.Need-all-columns-requires
@@ -27,7 +28,7 @@ same-length : tie.Need-same-length
 same-length c = search needs
 
 returns-2 : tie.Need-returns-2
-unfolding evdFromRealSchur vectorsLine
+unfolding evdFromRealSchur vectorsLine furtherLine
 returns-2 c =
     let w = c .before .before in
     let i = w .before .before in
