@@ -11,7 +11,7 @@ use lib.Dec.{eqb, ltb, leb, eqb·suc-suc}
 use lib.Ieee.{Float, Format}
 use borrow.Author.Tests.{ltb-true, ltb-false, leb-true, lt-ltb, le-ltb, eq-eqb, ne-eqb}
 use Rattle.model.specs.Form.{nonzeroBelow, twoBlock}
-use Rattle.model.specs.Swaps.{Change, unchanged}
+use Rattle.model.specs.Swaps.{Change, declinesIn, unchanged}
 use Rattle.model.specs.Move.{Exchange, Moving, firstRow, sizeAt, downBy, upBy, goalDown, moveFrom, move}
 use Rattle.laws_dtrexc.specs.Dtrexc.{Control, goes, Call, Returned, returned, updated, label10, label20, dtrexcBy, dtrexc}
 use Rattle.laws_dtrexc.specs.Choice.{ours, lapack, asCall, made, untilDecline, SameChoice, DtrexcChoice}
@@ -146,17 +146,19 @@ module _ (f : Format) (ld n : ℕ) (t : List Float) where
 
   -- nowhere to go
   stays : (a b : ℕ) → a ≡ b → SameChoice f ld n t (start a) (record { T = t; ILST = b + 1; INFO = 0; calls = [] })
-  unfolding returned
+  unfolding returned declinesIn
   stays a b e = rw (← e) (agree-choice f ld n t a (goes (seen 0 a (start a))) (start a) (start-listed a) (inl (record { is = refl; quiet = refl })))
 
   down : (a b goal : ℕ) → updated (sizeAt f ld n t a) (sizeAt f ld n t b) (b + 1) ≡ goal + 1 → ltb a goal ≡ true
       → SameChoice f ld n t (downBy n f ld n goal (start a)) (returned (label10 (ours f ld n) n n (record { T = t; ILST = updated (sizeAt f ld n t a) (sizeAt f ld n t b) (b + 1); HERE = a + 1; NBF = sizeAt f ld n t a; INFO = 0; calls = [] })))
+  unfolding declinesIn
   down a b goal e l =
       rw e
       (agree-choice f ld n t goal _ _ (down-by f ld n (Listed f ld n t) (listed-more f ld n t) (λ row c x o. o) n goal (start a) (start-listed a))
       (Down.loop f ld n t goal n (start a) (start-listed a) (start-nbf a) refl l))
 
   up : (a b : ℕ) → ltb b a ≡ true → SameChoice f ld n t (upBy n f ld n b (start a)) (returned (label20 (ours f ld n) n (record { T = t; ILST = b + 1; HERE = a + 1; NBF = sizeAt f ld n t a; INFO = 0; calls = [] })))
+  unfolding declinesIn
   up a b l =
       agree-choice f ld n t b _ _ (up-by f ld n (Listed f ld n t) (listed-more f ld n t) (λ row c x o. o) n b (start a) (start-listed a))
       (Up.loop f ld n t b n (start a) (start-listed a) (start-nbf a) refl l)

@@ -10,7 +10,8 @@ use lib.Dec.{eqb, ltb}
 use lib.Ieee.{Float, Format}
 use borrow.Author.Tests.{eqb-true, eqb-false, eq-eqb, ne-eqb}
 use Rattle.model.specs.Form.{zeroBelow}
-use Rattle.model.specs.Swaps.{Change, unchanged, andThen}
+use Rattle.model.specs.Swaps.{Change, declinesIn, declinedOf, unchanged, andThen}
+use Rattle.laws.proofs.Runs.{declined-then}
 use Rattle.model.specs.Exchange.{exchange}
 use Rattle.model.specs.Move.{Exchange, Moving, sizeAt, sizeAbove, exchanging, arrived, landedWhole, downWhole, downPastTwo, downApart, downStep, downBy, upWhole, upPastTwo, upApart, upStep, upBy}
 use Rattle.laws_dtrexc.specs.Choice.{made, untilDecline}
@@ -100,19 +101,21 @@ module _ (f : Format) (ld n : ℕ) (t : List Float) where
   unfolding exchanging made
   listed-more j n1 n2 m h = ap (λ (c : Change). andThen c (exchange f ld n j n1 n2)) h ∙ sym (made-append f ld n (unchanged t) (m .exchanges) (record { row = j; n1 = n1; n2 = n2 } ∷ []))
 
-  pub counted : (m : Moving) → Listed m → m .change .declined ≡ declines f ld n t (m .exchanges)
-  counted m h = ap (λ (c : Change). c .declined) h ∙ made-declined f ld n (unchanged t) (m .exchanges) ∙ zero-add _
+  pub counted : (m : Moving) → Listed m → declinedOf (m .change) ≡ declines f ld n t (m .exchanges)
+  unfolding declinesIn
+  counted m h = ap (λ (c : Change). declinedOf c) h ∙ made-declined f ld n (unchanged t) (m .exchanges) ∙ zero-add _
 
   -- something has declined, and l is the list up to there
   pub record Over (l : List Exchange) (m : Moving) : Type 0 where
     pub listed : Listed m
-    pub some : 0 < m .change .declined
+    pub some : 0 < declinedOf (m .change)
     pub until : untilDecline f ld n t (m .exchanges) ≡ l
 
   pub over-more : (l : List Exchange) (j n1 n2 : ℕ) (m : Moving) → Over l m → Over l (exchanging f ld n j n1 n2 m)
-  unfolding exchanging andThen
+  unfolding exchanging
   over-more l j n1 n2 m o =
       let c = counted m (o .listed) in
+      let e = declined-then (m .change) (exchange f ld n j n1 n2) in
       record { listed = listed-more j n1 n2 m (o .listed); some = omega (arith, o .some); until = until-over f ld n t (m .exchanges) _ (omega (arith, o .some, c)) ∙ o .until }
 
   pub over-put : (l : List Exchange) (row : ℕ) (b : Bool) (m : Moving) → Over l m → Over l (placed row b m)

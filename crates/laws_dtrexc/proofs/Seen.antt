@@ -10,7 +10,7 @@ use lib.Dec.{eqb, ltb, leb, leb·suc-suc}
 use lib.Ieee.{Float, Format, ne}
 use borrow.Author.Tests.{ltb-true, leb-true}
 use Rattle.model.specs.Form.{zeroBelow, nonzeroBelow, twoBlock}
-use Rattle.model.specs.Swaps.{andThen}
+use Rattle.model.specs.Swaps.{declinedOf, andThen}
 use Rattle.model.specs.Exchange.{exchange}
 use Rattle.model.specs.Move.{Moving, sizeAt, sizeAbove, firstRow, exchanging, arrived, landedWhole}
 use Rattle.laws_dtrexc.specs.Dtrexc.{Variables, goes, returns, NE, call, callOrReturn, ilstHere, toRow, breaks, firstOf, sizeOf}
@@ -36,7 +36,7 @@ guard-above k p = rw (add-one p) (leb·suc-suc k p)
 module _ (f : Format) (ld n : ℕ) where
   -- the declines of one exchange more
   abbrev pub dec : ℕ → ℕ → ℕ → Moving → ℕ
-  dec j n1 n2 m = exchange f ld n j n1 n2 (m .change .form) .declined
+  dec j n1 n2 m = declinedOf (exchange f ld n j n1 n2 (m .change .form))
 
   pub called : (i goal at j n1 n2 : ℕ) (m : Moving) → at ≡ j + 1 → call (ours f ld n) at n1 n2 (seen i goal m) ≡ seen (dec j n1 n2 m) goal (exchanging f ld n j n1 n2 m)
   unfolding call exchangeAt exchanging andThen

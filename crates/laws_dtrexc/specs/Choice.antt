@@ -8,7 +8,7 @@ use lib.Dec.{eqb}
 use lib.Ieee.{Float, Format, eq}
 use Rattle.model.specs.Arith.{zeroOf}
 use Rattle.model.specs.Form.{entry}
-use Rattle.model.specs.Swaps.{Change, unchanged, andThen}
+use Rattle.model.specs.Swaps.{Change, declinedOf, unchanged, andThen}
 use Rattle.model.specs.Exchange.{exchange}
 use Rattle.model.specs.Move.{Exchange, Moving, firstRow, sizeAt, goalDown, move}
 use Rattle.laws_dtrexc.specs.Dtrexc.{Exchanged, Routines, Call, Returned, dtrexcBy, dtrexc}
@@ -21,7 +21,7 @@ zeroAt f ld t I J = eq (entry ld t (I - 1) (J - 1)) (zeroOf f)
 unfoldable pub exchangeAt : Format → ℕ → ℕ → List Float → ℕ → ℕ → ℕ → Exchanged (List Float)
 exchangeAt f ld n t J1 N1 N2 =
     let c = exchange f ld n (J1 - 1) N1 N2 t in
-    record { T = c .form; INFO = c .declined }
+    record { T = c .form; INFO = declinedOf c }
 
 abbrev pub ours : Format → ℕ → ℕ → Routines (List Float)
 ours f ld n = record { zero = zeroAt f ld; dlaexc = exchangeAt f ld n }
@@ -49,7 +49,7 @@ unfoldable pub untilDecline : Format → ℕ → ℕ → List Float → List Exc
 untilDecline f ld n t [] = []
 untilDecline f ld n t (e ∷ es) =
     let c = make f ld n e t in
-    e ∷ cond (eqb (c .declined) 0) (untilDecline f ld n (c .form) es) []
+    e ∷ cond (eqb (declinedOf c) 0) (untilDecline f ld n (c .form) es) []
 
 -- ---- the claim
 
@@ -64,11 +64,11 @@ pub record SameChoice (f : Format) (ld n : ℕ) (t : List Float) (m : Moving) (v
   -- so they are the beginning of ours
   pub beginning : (rest : List Call) × (map asCall (m .exchanges) ≡ v .calls ++ rest)
   -- and, where nothing declined, all of ours, with the same place and form at the end
-  pub whole : m .change .declined ≡ 0 → v .calls ≡ map asCall (m .exchanges)
-  pub landed : m .change .declined ≡ 0 → v .ILST ≡ m .here + 1
-  pub form : m .change .declined ≡ 0 → v .T ≡ m .change .form
+  pub whole : declinedOf (m .change) ≡ 0 → v .calls ≡ map asCall (m .exchanges)
+  pub landed : declinedOf (m .change) ≡ 0 → v .ILST ≡ m .here + 1
+  pub form : declinedOf (m .change) ≡ 0 → v .T ≡ m .change .form
   -- dtrexc fails exactly where one of ours declined
-  pub failed : (v .INFO ≡ 0) ↔ (m .change .declined ≡ 0)
+  pub failed : (v .INFO ≡ 0) ↔ (declinedOf (m .change) ≡ 0)
 
 -- for every format, stride and form, whatever stands in it
 abbrev pub DtrexcChoice : Type 0

@@ -15,7 +15,8 @@ use Rattle.model.specs.Swaps.{Change, unchanged, andThen, declinesIn, swapsOf, 
 use Rattle.model.specs.Exchange.{standardiseIf, exchangeWhole, exchangeBy, exchange}
 use Rattle.form.specs.Run.{Rows}
 use Rattle.swaps.specs.Done.{Done, Step}
-use Rattle.swaps.proofs.Steps.{done-then, step-then, swaps-then, declined-then}
+use Rattle.laws.proofs.Runs.{swaps-then, declined-then}
+use Rattle.swaps.proofs.Steps.{done-then, step-then}
 
 -- ---- standardising counts nothing
 no-swaps : (f : Format) (ld n size j : ℕ) (t : List Float) → swapsOf (standardiseIf f ld n size j t) ≡ 0

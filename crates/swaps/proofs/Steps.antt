@@ -1,14 +1,15 @@
 -- One step after another is the step of both. Assumes nothing.
 use mathlib.Core.Path.{_≡_, refl, sym, ap, _∙_, subst}
 use Prim.Native.Nat.{ℕ, _+_}
-use native.Mathlib.Nat.{add-zero, zero-add, add-assoc}
+use native.Mathlib.Nat.{add-zero, zero-add}
 use mathlib.Core.Bool.{Bool, true, false, cond}
 use mathlib.Core.List.{List, [], _∷_, _++_}
-use lib.ListN.{length, length-append}
+use lib.ListN.{length}
 use lib.Ieee.{Float, Format, binary64}
 use Rattle.model.specs.Columns.{Operation, onFactor, onColumns}
 use Rattle.model.specs.Exchange.{factorRows}
-use Rattle.model.specs.Swaps.{Swap, Change, declinesIn, swapsOf, declinedOf, declining, andThen, windowAt, solutionOf, reflectors4, declines, swap22By, swap22}
+use Rattle.model.specs.Swaps.{Change, swapsOf, declinedOf, declining, andThen, windowAt, solutionOf, reflectors4, declines, swap22By, swap22}
+use Rattle.laws.proofs.Runs.{swaps-then, declined-then}
 use Rattle.swaps.specs.Done.{Done, Step}
 
 onFactor-append : (f : Format) (ld k : ℕ) (a b : List Operation) (u : List Float) → onFactor f ld k (a ++ b) u ≡ onFactor f ld k b (onFactor f ld k a u)
@@ -33,20 +34,6 @@ done-then {n} {u} {t₁} {u₁} {t₂} {u₂} {c} next a e b =
           ∙ ap (λ (t : List Float). onFactor binary64 n (factorRows n u) (next t .operations) (onFactor binary64 n (factorRows n u) (c .operations) u)) (a .form)
           ∙ sym (onFactor-append binary64 n (factorRows n u) (c .operations) (next (c .form) .operations) u);
     }
-
--- the counts of one list of runs after another
-declines-append : (a b : List Swap) → declinesIn (a ++ b) ≡ declinesIn a + declinesIn b
-unfolding declinesIn
-declines-append [] b = sym (zero-add _)
-declines-append (r ∷ rs) b = ap (λ (k : ℕ). cond (r .declined) 1 0 + k) (declines-append rs b) ∙ sym (add-assoc (cond (r .declined) 1 0) (declinesIn rs) (declinesIn b))
-
-pub swaps-then : (c : Change) (next : List Float → Change) → swapsOf (andThen c next) ≡ swapsOf c + swapsOf (next (c .form))
-unfolding andThen
-swaps-then c next = simp length-append
-
-pub declined-then : (c : Change) (next : List Float → Change) → declinedOf (andThen c next) ≡ declinedOf c + declinedOf (next (c .form))
-unfolding andThen
-declined-then c next = declines-append (c .runs) (next (c .form) .runs)
 
 pub step-then : {n : ℕ} {u t₁ u₁ t₂ u₂ : List Float} {s₁ d₁ s₂ d₂ : ℕ} {c : Change} (next : List Float → Change)
     → Step n u t₁ u₁ s₁ d₁ c → length u₁ ≡ length u → Step n u₁ t₂ u₂ s₂ d₂ (next t₁) → Step n u t₂ u₂ (s₁ + s₂) (d₁ + d₂) (andThen c next)
