@@ -11,7 +11,7 @@ use Rattle.laws_moves.specs.Lists.{Fed, countFrom, takeOut, putIn, refus
 
 -- a move with a factor of so many numbers
 abbrev by : ℕ → ℕ → ℕ → Fed
-by from to length = record { from = from; to = to; length = length }
+by from to k = record { from = from; to = to; factorLength = k }
 
 down : rowList 3 (by 0 2 0 ∷ []) ≡ 1 ∷ 2 ∷ 0 ∷ []
 unfolding rowList rowsAfter rowsMoved refused countFrom putIn takeOut

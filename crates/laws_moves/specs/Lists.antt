@@ -29,10 +29,10 @@ formAfter f n (m ∷ ms) t = formAfter f n ms (moveCall f n n t (m .factor) (m .
 pub record Fed : Type 0 where
   pub from : ℕ
   pub to : ℕ
-  pub length : ℕ
+  pub factorLength : ℕ
 
 abbrev pub fedOf : Move → Fed
-fedOf m = record { from = m .from; to = m .to; length = length (m .factor) }
+fedOf m = record { from = m .from; to = m .to; factorLength = length (m .factor) }
 
 unfoldable pub fed : List Move → List Fed
 fed [] = []
@@ -57,7 +57,7 @@ putIn x (suc k) (r ∷ rs) = r ∷ putIn x k rs
 
 -- line 4, the factor's length is neither n × n nor 0, or line 7, a position is not below n
 unfoldable pub refused : ℕ → Fed → Bool
-refused n m = not (eqb (m .length) (n * n) || eqb (m .length) 0) || (not (ltb (m .from) n) || not (ltb (m .to) n))
+refused n m = not (eqb (m .factorLength) (n * n) || eqb (m .factorLength) 0) || (not (ltb (m .from) n) || not (ltb (m .to) n))
 
 -- a move
 unfoldable pub rowsMoved : ℕ → Fed → List ℕ → List ℕ

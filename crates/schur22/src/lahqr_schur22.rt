@@ -333,9 +333,11 @@ fn eigenvalues_of(x: Block) -> Eigenvalues
     Eigenvalues::Real(x.a, x.d)
 }
 
-// The block of rows (a, b) and (c, d), standardised: the new numbers, the rotation and the pair.
+// The block of rows (a, b) and (c, d), standardised: the new numbers, the rotation and the pair, whose
+// number and values are those of `valuesOf`.
 pub fn lahqr_schur22(a: f64, b: f64, c: f64, d: f64) -> Standardised
-    ensures { λ r. ⌜ standardised r ≡ Schur22.lahqrSchur22 binary64 a b c d ⌝ }
+    ensures standardised { λ r. ⌜ standardised r ≡ Schur22.lahqrSchur22 binary64 a b c d ⌝ }
+    ensures values { λ r. ⌜ Schur22.valuesOf binary64 (eigenvalues (r .eigenvalues)) ≡ Schur22.valuesOf binary64 (Schur22.lahqrSchur22 binary64 a b c d .eigenvalues) ⌝ }
 {
     let block = standard(a, b, c, d);
     let eigenvalues = eigenvalues_of(block);

@@ -1,4 +1,4 @@
--- `linalg::lahqr_schur22::bound_met` meets its contract. Assumes nothing.
+-- `schur22::lahqr_schur22::bound_met` meets its contract. Assumes nothing.
 use Rattle.schur22.proofs.Safe.{lower, upper}
 use Rattle.model.specs.Schur22.{boundMet}
 use Rattle.schur22.proofs.lahqr_schur22.bound_met.Statement.{statement}

@@ -1,4 +1,4 @@
--- `linalg::lahqr_schur22::rescaled` meets its contract. The invariant: the rounds that are left, from the pair as it is, give what twenty give from the pair as it came. Assumes nothing.
+-- `schur22::lahqr_schur22::rescaled` meets its contract. The invariant: the rounds that are left, from the pair as it is, give what twenty give from the pair as it came. Assumes nothing.
 use borrow.Author.Needs.{needs}
 use mathlib.Core.Path.{_≡_, refl, sym, _∙_}
 use mathlib.Core.Bool.{true, false}

@@ -1,4 +1,4 @@
--- `linalg::lahqr_schur22::sn_of` meets its contract. Assumes nothing.
+-- `schur22::lahqr_schur22::sn_of` meets its contract. Assumes nothing.
 use Rattle.model.specs.Schur22.{snOf}
 use Rattle.schur22.proofs.lahqr_schur22.sn_of.Statement.{statement}
 use Rattle.schur22.proofs.lahqr_schur22.sn_of.Tie as tie

@@ -1,4 +1,4 @@
--- `linalg::lahqr_schur22::unlike_signs` meets its contract. Assumes nothing.
+-- `schur22::lahqr_schur22::unlike_signs` meets its contract. Assumes nothing.
 use mathlib.Core.Path.{refl}
 use Rattle.model.specs.Schur22.{unlikeSigns}
 use Rattle.schur22.proofs.lahqr_schur22.unlike_signs.Statement.{statement}

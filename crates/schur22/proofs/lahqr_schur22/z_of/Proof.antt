@@ -1,4 +1,4 @@
--- `linalg::lahqr_schur22::z_of` meets its contract. Assumes nothing.
+-- `schur22::lahqr_schur22::z_of` meets its contract. Assumes nothing.
 use mathlib.Core.Path.{refl}
 use Rattle.model.specs.Schur22.{zOf}
 use Rattle.schur22.proofs.lahqr_schur22.z_of.Statement.{statement}

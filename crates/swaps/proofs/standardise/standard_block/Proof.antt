@@ -40,7 +40,7 @@ returns c =
     let d = b .before in
     let e = d .before in
     let f = e .before in
-    rw (b .get4 .ensures, d .get3 .ensures, e .get2 .ensures, f .get .ensures) at (ap (λ (s : Standardised). s .block) (a .lahqr-schur22 .ensures))
+    rw (b .get4 .ensures, d .get3 .ensures, e .get2 .ensures, f .get .ensures) at (ap (λ (s : Standardised). s .block) (a .lahqr-schur22 .ensures .0))
 
 pub standard-block-spec : {M : Type 1} → statement M
 standard-block-spec =

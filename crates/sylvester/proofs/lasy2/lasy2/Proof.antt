@@ -1,4 +1,4 @@
--- `linalg::lasy2::lasy2` meets its contract. Assumes nothing.
+-- `sylvester::lasy2::lasy2` meets its contract. Assumes nothing.
 use borrow.Author.Needs.{needs}
 use Rattle.model.specs.Lasy2.{lasy2}
 use Rattle.sylvester.proofs.lasy2.lasy2.Statement.{statement}

@@ -1,4 +1,4 @@
--- `linalg::lasy2::pivot_in_row` meets its contract. The invariant: what is left of the row, from the best so far, gives the best of the whole, and the best lies within the matrix. Assumes nothing.
+-- `sylvester::lasy2::pivot_in_row` meets its contract. The invariant: what is left of the row, from the best so far, gives the best of the whole, and the best lies within the matrix. Assumes nothing.
 use borrow.Author.Needs.{needs}
 use mathlib.Core.Path.{_≡_, refl}
 use Prim.Native.Nat.{_+_, _-_, _≤_}

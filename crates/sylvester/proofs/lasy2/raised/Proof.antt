@@ -1,4 +1,4 @@
--- `linalg::lasy2::raised` meets its contract. Assumes nothing.
+-- `sylvester::lasy2::raised` meets its contract. Assumes nothing.
 use borrow.Author.Needs.{needs}
 use Rattle.model.specs.Lasy2.{raised}
 use Rattle.sylvester.proofs.lasy2.raised.Statement.{statement}

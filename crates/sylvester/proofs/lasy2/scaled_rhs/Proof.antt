@@ -1,4 +1,4 @@
--- `linalg::lasy2::scaled_rhs` meets its contract. Assumes nothing.
+-- `sylvester::lasy2::scaled_rhs` meets its contract. Assumes nothing.
 use borrow.Author.Needs.{needs}
 use Rattle.model.specs.Lasy2.{scaledRhs}
 use Rattle.sylvester.proofs.lasy2.scaled_rhs.Statement.{statement}

@@ -1,4 +1,4 @@
--- `linalg::lasy2::smin_of` meets its contract. Assumes nothing.
+-- `sylvester::lasy2::smin_of` meets its contract. Assumes nothing.
 use borrow.Author.Needs.{needs}
 use Rattle.model.specs.Lasy2.{sminOf}
 use Rattle.sylvester.proofs.lasy2.smin_of.Statement.{statement}

@@ -1,4 +1,4 @@
--- `linalg::lasy2::smlnum` meets its contract. Assumes nothing.
+-- `sylvester::lasy2::smlnum` meets its contract. Assumes nothing.
 use mathlib.Core.Path.{refl}
 use Rattle.model.specs.Lasy2.{smlnum}
 use Rattle.sylvester.proofs.lasy2.smlnum.Statement.{statement}

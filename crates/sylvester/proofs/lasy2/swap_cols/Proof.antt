@@ -1,4 +1,4 @@
--- `linalg::lasy2::swap_cols` meets its contract. Assumes nothing.
+-- `sylvester::lasy2::swap_cols` meets its contract. Assumes nothing.
 use borrow.Author.Needs.{needs}
 use Rattle.model.specs.Lasy2.{swapCols}
 use Rattle.sylvester.proofs.lasy2.swap_cols.Statement.{statement}

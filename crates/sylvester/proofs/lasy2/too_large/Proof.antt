@@ -1,4 +1,4 @@
--- `linalg::lasy2::too_large` meets its contract. Assumes nothing.
+-- `sylvester::lasy2::too_large` meets its contract. Assumes nothing.
 use borrow.Author.Needs.{needs}
 use Rattle.model.specs.Lasy2.{tooLarge}
 use Rattle.sylvester.proofs.lasy2.too_large.Statement.{statement}

@@ -1,0 +1,23 @@
+-- What is handed over with `reorder_schur`: the rule on lists of moves, and dtrexc's choice, both about the very `moveCall` that its contract cites.
+-- They are proved in laws_moves and laws_dtrexc, on which this crate rests, so that the move is not built without them. Definitions only: proofs/Handed.antt has the proof. Assumes nothing.
+use Prim.Native.Nat.{ℕ}
+use mathlib.Core.Path.{_≡_}
+use mathlib.Core.List.{List}
+use lib.Ieee.{Float, Format}
+use Rattle.model.specs.Move.{moveLine, moved, move, moveCall}
+use Rattle.laws_moves.specs.Lists.{ListsOfMoves}
+use Rattle.laws_dtrexc.specs.Choice.{lapack, SameChoice}
+
+-- a call that no line turns away is the move whose exchanges are dtrexc's
+pub record Chosen (f : Format) (ld n : ℕ) (t u : List Float) (from to : ℕ) : Type 0 where
+  pub call : moveCall f ld n t u from to ≡ moved f ld n u (move f ld n from to t)
+  pub choice : SameChoice f ld n t (move f ld n from to t) (lapack f ld n from to t)
+
+abbrev pub CallsChoose : Type 0
+CallsChoose = (f : Format) (ld n : ℕ) (t u : List Float) (from to : ℕ) → moveLine f ld n t u from to ≡ 0 → Chosen f ld n t u from to
+
+pub record HandedOver : Type 0 where
+  -- demand 3, whose lists are lists of `moveCall`
+  pub lists : ListsOfMoves
+  -- dtrexc's choice, of each accepted `moveCall`
+  pub choice : CallsChoose
