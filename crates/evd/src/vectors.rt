@@ -15,6 +15,7 @@ use arith::real::abs1;
 use form::form_line;
 use form::place;
 use solve::block::imag_size;
+use solve::block::last_size;
 use solve::block::top;
 use solve::block::with_further;
 use solve::solve_cplx::solve_cplx_shifted_upper_quasi_triangular_system;
@@ -173,17 +174,12 @@ fn last_block(ld: usize, n: usize, t: &[f64], norm: f64, rows: usize, v: &mut [f
     requires { ⌜ Whole (now t) ld n × (length (now v) ≡ ld * n) × (0 < rows) × (rows ≤ n) ⌝ }
     ensures { λ r. ⌜ (r < rows) × (Vectors.columnsOf binary64 ld (now (t .entry)) norm r (now (v .exit)) ≡ Vectors.columnsOf binary64 ld (now (t .entry)) norm rows (now (v .entry))) ⌝ }
 {
-    if rows == 1 {
-        real_column(ld, n, t, norm, 0, v);
-        return 0;
+    if last_size(ld, n, t, rows) == 1 {
+        real_column(ld, n, t, norm, rows - 1, v);
+        return rows - 1;
     }
-    let j = rows - 2;
-    if t[place(ld, n, j + 1, j)] == 0.0 {
-        real_column(ld, n, t, norm, j + 1, v);
-        return j + 1;
-    }
-    cplx_columns(ld, n, t, norm, j, v);
-    j
+    cplx_columns(ld, n, t, norm, rows - 2, v);
+    rows - 2
 }
 
 // All columns of an accepted form.

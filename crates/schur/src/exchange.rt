@@ -96,7 +96,14 @@ fn both(a: Counts, b: Counts) -> Counts
 }
 
 // The exchange where there are at most three rows in all. Two rows with a zero inside go one by one.
-fn exchange_three_rows(t: &mut [f64], u: &mut [f64], n: usize, j: usize, n1: usize, n2: usize) -> Counts
+fn exchange_three_rows(
+    t: &mut [f64],
+    u: &mut [f64],
+    n: usize,
+    j: usize,
+    n1: usize,
+    n2: usize,
+) -> Counts
     requires { ⌜ Sized n (now t) × Beside n (now u) × Rows n j n1 n2 × (n1 + n2 ≤ 3) ⌝ }
     ensures { λ r. ⌜ Step n (now (u .entry)) (now (t .exit)) (now (u .exit)) (r .swaps) (r .declined) (Exchange.exchange binary64 n n j n1 n2 (now (t .entry))) × (r .swaps ≤ 2) × (r .declined ≤ 2) ⌝ }
 {

@@ -5,6 +5,7 @@ ghost use Prim.Native.Nat.{_+_, _-_, _*_, _<_, _≤_};
 ghost use lib.Dec.{eqb};
 ghost use lib.Ieee.{binary64};
 ghost use Rattle.model.specs.Form.{entry};
+ghost use Rattle.model.specs.Move as Move;
 ghost use Rattle.model.specs.Values as Values;
 ghost use Rattle.solve.specs.Sizes.{Square};
 use arith::real::abs;
@@ -63,6 +64,21 @@ pub fn block_of(ld: usize, n: usize, a: &[f64], i: usize) -> Block
     let b = a[spot(ld, n, i, i + 1)];
     let c = a[spot(ld, n, i + 1, i)];
     Block { d, b, c }
+}
+
+// How many rows the last block of the first `rows` rows has.
+pub fn last_size(ld: usize, n: usize, a: &[f64], rows: usize) -> usize
+    requires { ⌜ Square (now a) ld n × (0 < rows) × (rows ≤ n) ⌝ }
+    ensures { λ r. ⌜ (r ≡ Move.sizeAbove binary64 ld (now (a .entry)) rows) × (1 ≤ r) × (r ≤ 2) × (r ≤ rows) ⌝ }
+{
+    if rows < 2 {
+        return 1;
+    }
+    let j = rows - 2;
+    if a[spot(ld, n, j + 1, j)] != 0.0 {
+        return 2;
+    }
+    1
 }
 
 // The imaginary size of a 2-block with these numbers off its diagonal.

@@ -1,11 +1,21 @@
 -- `evd::vectors::last_block` meets its contract. Assumes nothing.
-use Rattle.solve.proofs.Blocks.{last-row, last-one, last-two}
+use mathlib.Core.Path.{sym, _∙_}
+use Rattle.solve.proofs.Blocks.{last-one, last-two}
 use borrow.Author.Needs.{needs}
 use Rattle.evd.proofs.vectors.last_block.Statement.{statement}
 use Rattle.evd.proofs.vectors.last_block.Tie as tie
 
+last-size-requires : tie.Need-last-size-requires
+last-size-requires c κs = search needs
+
+sub-real-column : tie.Need-sub-real-column
+sub-real-column c = search needs
+
 real-column-requires : tie.Need-real-column-requires
 real-column-requires c κs = search needs
+
+sub-result : tie.Need-sub-result
+sub-result c = search needs
 
 same-length : tie.Need-same-length
 same-length c = search needs
@@ -14,31 +24,17 @@ returns : tie.Need-returns
 returns c =
     let w = c .before .before in
     let t = w .before .before in
-    (search needs, rw (w .real-column .ensures) (last-row _ _ _ _ _ _ _ (t .if1 .taken)))
+    let l = t .before .last-size .ensures in
+    (search needs, rw (w .real-column .ensures) (last-one _ _ _ _ _ _ _ (search needs) (sym (l .0) ∙ t .if1 .taken)))
 
-sub-j : tie.Need-sub-j
-sub-j c = search needs
+sub-cplx-columns : tie.Need-sub-cplx-columns
+sub-cplx-columns c = search needs
 
-add-place : tie.Need-add-place
-add-place c = search needs
+cplx-columns-requires : tie.Need-cplx-columns-requires
+cplx-columns-requires c κs = search needs
 
-place-requires : tie.Need-place-requires
-place-requires c κs = search needs
-
-mul-if2 : tie.Need-mul-if2
-mul-if2 c = search needs
-
-shared-slice-read-if2 : tie.Need-shared-slice-read-if2
-shared-slice-read-if2 c = search needs
-
-add-real-column : tie.Need-add-real-column
-add-real-column c = search needs
-
-real-column-requires-2 : tie.Need-real-column-requires-2
-real-column-requires-2 c κs = search needs
-
-add-result : tie.Need-add-result
-add-result c = search needs
+sub-result-2 : tie.Need-sub-result-2
+sub-result-2 c = search needs
 
 same-length-2 : tie.Need-same-length-2
 same-length-2 c = search needs
@@ -47,39 +43,21 @@ returns-2 : tie.Need-returns-2
 returns-2 c =
     let w = c .before .before in
     let t = w .before .before in
-    let s = t .before .before in
-    (search needs, rw (w .real-column2 .ensures) (last-one _ _ _ _ _ _ _ (search needs) (rw (s .place .ensures .0) at (t .if2 .taken))))
-
-cplx-columns-requires : tie.Need-cplx-columns-requires
-cplx-columns-requires c κs = search needs
-
-same-length-3 : tie.Need-same-length-3
-same-length-3 c = search needs
-
-returns-3 : tie.Need-returns-3
-returns-3 c =
-    let w = c .before .before in
-    let t = w .before .before in
-    let s = t .before .before in
-    (search needs, rw (w .cplx-columns .ensures) (last-two _ _ _ _ _ _ _ (search needs) (rw (s .place .ensures .0) at (t .if2 .left))))
+    let l = t .before .last-size .ensures in
+    (search needs, rw (w .cplx-columns .ensures) (last-two _ _ _ _ _ _ _ (search needs) (λ e. t .if1 .left (l .0 ∙ e))))
 
 pub last-block-spec : {M : Type 1} → statement M
 last-block-spec =
     tie.close
     (tie.spec
+    last-size-requires
+    sub-real-column
     real-column-requires
+    sub-result
     same-length
     returns
-    sub-j
-    add-place
-    place-requires
-    mul-if2
-    shared-slice-read-if2
-    add-real-column
-    real-column-requires-2
-    add-result
-    same-length-2
-    returns-2
+    sub-cplx-columns
     cplx-columns-requires
-    same-length-3
-    returns-3)
+    sub-result-2
+    same-length-2
+    returns-2)
