@@ -1,8 +1,9 @@
 // Reflections of two, three and four numbers, by value and at places of a list.
 ghost use mathlib.Core.Path.{_≡_};
 ghost use Prim.Native.Nat.{_<_};
-ghost use lib.ListN.{length};
+ghost use lib.ListN.{length, set};
 ghost use lib.Ieee.{binary64};
+ghost use Rattle.model.specs.Form.{at};
 ghost use Rattle.model.specs.Columns as Columns;
 ghost use Rattle.linalg.specs.View.{rotation, pair};
 ghost use Rattle.swaps.specs.View.{triple, quad, reflection3, reflection4};
@@ -115,34 +116,53 @@ pub fn rotate_at(t: &mut [f64], r: JacobiRotation, p: usize, q: usize)
     t[q] = w.y;
 }
 
+// The numbers at three places.
+fn triple_at(t: &[f64], p: usize, q: usize, r: usize) -> Triple
+    requires { ⌜ (p < length (now t)) × (q < length (now t)) × (r < length (now t)) ⌝ }
+    ensures { λ w. ⌜ triple w ≡ record { x0 = at (now (t .entry)) p; x1 = at (now (t .entry)) q; x2 = at (now (t .entry)) r } ⌝ }
+{
+    Triple {
+        x0: t[p],
+        x1: t[q],
+        x2: t[r],
+    }
+}
+
+// Three numbers put at three places.
+fn put_triple(t: &mut [f64], p: usize, q: usize, r: usize, w: Triple)
+    requires { ⌜ (p < length (now t)) × (q < length (now t)) × (r < length (now t)) ⌝ }
+    ensures { λ _. ⌜ now (t .exit) ≡ set (set (set (now (t .entry)) p (w .x0)) q (w .x1)) r (w .x2) ⌝ }
+{
+    t[p] = w.x0;
+    t[q] = w.x1;
+    t[r] = w.x2;
+}
+
 pub fn reflect3_at(t: &mut [f64], v: Reflectors3, p: usize, q: usize, r: usize)
     requires { ⌜ (p < length (now t)) × (q < length (now t)) × (r < length (now t)) ⌝ }
     ensures { λ _. ⌜ now (t .exit) ≡ Columns.reflect3At binary64 (reflection3 v) p q r (now (t .entry)) ⌝ }
 {
-    let old = Triple {
-        x0: t[p],
-        x1: t[q],
-        x2: t[r],
-    };
-    let w = reflect3(v, old);
-    t[p] = w.x0;
-    t[q] = w.x1;
-    t[r] = w.x2;
+    let w = reflect3(v, triple_at(&*t, p, q, r));
+    put_triple(&mut *t, p, q, r, w);
 }
 
 pub fn reflect4_at(t: &mut [f64], v: Reflectors4, p: usize, q: usize, r: usize, s: usize)
     requires { ⌜ (p < length (now t)) × (q < length (now t)) × (r < length (now t)) × (s < length (now t)) ⌝ }
     ensures { λ _. ⌜ now (t .exit) ≡ Columns.reflect4At binary64 (reflection4 v) p q r s (now (t .entry)) ⌝ }
 {
+    let rest = triple_at(&*t, q, r, s);
     let old = Quad {
         x0: t[p],
-        x1: t[q],
-        x2: t[r],
-        x3: t[s],
+        x1: rest.x0,
+        x2: rest.x1,
+        x3: rest.x2,
     };
     let w = reflect4(v, old);
     t[p] = w.x0;
-    t[q] = w.x1;
-    t[r] = w.x2;
-    t[s] = w.x3;
+    let below = Triple {
+        x0: w.x1,
+        x1: w.x2,
+        x2: w.x3,
+    };
+    put_triple(&mut *t, q, r, s, below);
 }

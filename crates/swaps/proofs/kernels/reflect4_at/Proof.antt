@@ -1,32 +1,19 @@
 -- `swaps::kernels::reflect4_at` meets its contract. Assumes nothing.
-use Rattle.model.specs.Columns.{reflect4At}
+use mathlib.Core.Path.{ap, _∙_}
+use lib.ListN.{length-set}
+use Rattle.model.specs.Columns.{Triple, reflect4At}
 use borrow.Author.Needs.{needs}
 use Rattle.swaps.proofs.kernels.reflect4_at.Statement.{statement}
 use Rattle.swaps.proofs.kernels.reflect4_at.Tie as tie
 
-mul-t9 : tie.Need-mul-t9
-mul-t9 c = search needs
+triple-at-requires : tie.Need-triple-at-requires
+triple-at-requires c κs = search needs
 
-slice-read-t11 : tie.Need-slice-read-t11
-slice-read-t11 c = search needs
+mul-t13 : tie.Need-mul-t13
+mul-t13 c = search needs
 
-mul-t12 : tie.Need-mul-t12
-mul-t12 c = search needs
-
-slice-read-t14 : tie.Need-slice-read-t14
-slice-read-t14 c = search needs
-
-mul-t15 : tie.Need-mul-t15
-mul-t15 c = search needs
-
-slice-read-t17 : tie.Need-slice-read-t17
-slice-read-t17 c = search needs
-
-mul-t18 : tie.Need-mul-t18
-mul-t18 c = search needs
-
-slice-read-t20 : tie.Need-slice-read-t20
-slice-read-t20 c = search needs
+slice-read-t15 : tie.Need-slice-read-t15
+slice-read-t15 c = search needs
 
 reflect4-requires : tie.Need-reflect4-requires
 reflect4-requires c κs = search needs
@@ -37,51 +24,31 @@ mul-t c = search needs
 slice-write-t : tie.Need-slice-write-t
 slice-write-t c = search needs
 
-mul-t-2 : tie.Need-mul-t-2
-mul-t-2 c = search needs
-
-slice-write-t-2 : tie.Need-slice-write-t-2
-slice-write-t-2 c = search needs
-
-mul-t-3 : tie.Need-mul-t-3
-mul-t-3 c = search needs
-
-slice-write-t-3 : tie.Need-slice-write-t-3
-slice-write-t-3 c = search needs
-
-mul-t-4 : tie.Need-mul-t-4
-mul-t-4 c = search needs
-
-slice-write-t-4 : tie.Need-slice-write-t-4
-slice-write-t-4 c = search needs
+put-triple-requires : tie.Need-put-triple-requires
+put-triple-requires c κs = search needs
 
 same-length : tie.Need-same-length
-same-length c = search needs
+same-length c = c .before .before .put-triple .kept .0 ∙ simp length-set
 
 returns : tie.Need-returns
 unfolding reflect4At
-returns c = rw (← c .reflect4 .ensures)
+returns c =
+    let p = c .before .before in
+    let r = p .before .before in
+    let a = r .before .before in
+    let e = a .triple-at .ensures in
+    rw (p .put-triple .ensures, ← ap (λ (w : Triple). w .x0) e, ← ap (λ (w : Triple). w .x1) e, ← ap (λ (w : Triple). w .x2) e, ← r .reflect4 .ensures)
 
 pub reflect4-at-spec : {M : Type 1} → statement M
 reflect4-at-spec =
     tie.close
     (tie.spec
-    mul-t9
-    slice-read-t11
-    mul-t12
-    slice-read-t14
-    mul-t15
-    slice-read-t17
-    mul-t18
-    slice-read-t20
+    triple-at-requires
+    mul-t13
+    slice-read-t15
     reflect4-requires
     mul-t
     slice-write-t
-    mul-t-2
-    slice-write-t-2
-    mul-t-3
-    slice-write-t-3
-    mul-t-4
-    slice-write-t-4
+    put-triple-requires
     same-length
     returns)
