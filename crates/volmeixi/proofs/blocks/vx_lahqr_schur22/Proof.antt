@@ -12,7 +12,7 @@ values-of-requires c κs = search needs
 returns : tie.Need-returns
 returns c =
     let a = c .before .before in
-    rw (← a .lahqr-schur22 .ensures, ← c .values-of .ensures)
+    rw (← a .lahqr-schur22 .ensures .0, ← c .values-of .ensures)
 
 pub vx-lahqr-schur22-spec : {M : Type 1} → statement M
 vx-lahqr-schur22-spec = tie.close (tie.spec lahqr-schur22-requires values-of-requires returns)
