@@ -1,13 +1,13 @@
 //! Times the root beside the processor's instruction, and the modulus beside the Rust's and libm's.
 
 use crate::forms::between;
+use crate::opaque::black_box;
 use crate::report::{Report, nanoseconds, shown};
 use crate::rng::Rng;
 use crate::sides::*;
 use crate::speed::{Plan, SEED};
 use crate::table::Table;
 use crate::timing::Times;
-use std::hint::black_box;
 use std::time::{Duration, Instant};
 
 const COUNT: usize = 512;

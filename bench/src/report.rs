@@ -45,7 +45,7 @@ impl Report {
 
     /// Keeps the ratios of a row, and hands back the verdict where something is asked of it.
     pub fn add(&mut self, name: &str, n: usize, most: Option<f64>, ratios: &[Spread]) -> String {
-        if self.rows.last().is_none_or(|row| row.0 != name) {
+        if self.rows.last().map_or(true, |row| row.0 != name) {
             self.rows.push((name.to_string(), Default::default()));
         }
         let cell = |x: &Spread| match most {
@@ -61,7 +61,10 @@ impl Report {
 
     /// The verdict alone.
     pub fn judged(&mut self, most: Option<f64>, names: &[&str], ratios: &[Spread]) -> String {
-        let Some(most) = most else { return "–".to_string() };
+        let most = match most {
+            Some(most) => most,
+            None => return "–".to_string(),
+        };
         self.asked += 1;
         self.met += usize::from(!ratios.iter().any(|x| above(*x, most)));
         verdict(most, names, ratios)

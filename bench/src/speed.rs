@@ -2,13 +2,13 @@
 
 use crate::arithmetic::arithmetic;
 use crate::forms::{Form, Kind, unit};
+use crate::opaque::black_box;
+use crate::progress::on_terminal;
 use crate::report::{NAMES, Report, nanoseconds, shown};
 use crate::shim::Complex;
 use crate::sides::*;
 use crate::table::Table;
 use crate::timing::{Spread, Times};
-use std::hint::black_box;
-use std::io::IsTerminal;
 use std::time::{Duration, Instant};
 
 pub const SIZES: [usize; 5] = [4, 8, 16, 32, 64];
@@ -56,7 +56,7 @@ pub fn run(plan: &Plan, sides: &Sides) {
 
 /// Shown on a terminal only, on one line that is wiped at the end.
 fn progress(text: &str) {
-    if std::io::stderr().is_terminal() {
+    if on_terminal() {
         eprint!("\r\x1b[K{text}");
     }
 }

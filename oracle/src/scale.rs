@@ -1,10 +1,10 @@
 //! The comparison at scale: every call that the archive has, on small cases and on large forms.
 
-use crate::{bindings, fault};
 use crate::compare::{self, Plan};
 use crate::generate::{self, Sizes};
 use crate::progress::Progress;
 use crate::record::CALLS;
+use crate::{bindings, fault};
 use std::io;
 
 pub const SEED: u64 = 20_261_116;

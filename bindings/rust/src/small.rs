@@ -66,7 +66,7 @@ pub fn apply(rot: JacobiRotation, x: f64, y: f64) -> (f64, f64) {
     let mut out = [0.0; 2];
     // SAFETY: as in rotg.
     unsafe { abi::vx_apply(rot.c, rot.s, x, y, out.as_mut_ptr(), out.len()) };
-    out.into()
+    (out[0], out[1])
 }
 
 /// The reflection that takes the head and the tail to a new head and zeros. The tail, 1 to 3
