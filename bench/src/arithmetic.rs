@@ -50,11 +50,12 @@ pub fn arithmetic(plan: &Plan, report: &mut Report) -> Table {
         }
         let times = Times::take(2, COUNT, plan.budget, run);
         let ratio = times.ratio(0, 1, plan.least);
+        report.note(&[ratio], &times);
         table.add(vec![
             name.to_string(),
             beside.to_string(),
-            nanoseconds(times.nanoseconds(0)),
-            nanoseconds(times.nanoseconds(1)),
+            nanoseconds(&times, 0),
+            nanoseconds(&times, 1),
             shown(ratio),
             report.judged(most, &[beside], &[ratio]),
         ]);
