@@ -61,7 +61,7 @@ fn progress(text: &str) {
     }
 }
 
-/// What issue 6 of 6 asks of moves of more than one exchange and of vectors.
+/// What is asked of moves of more than one exchange and of vectors: docs/BENCHMARKS.md.
 fn target(n: usize) -> f64 {
     if n >= 16 { 1.0 } else { 1.5 }
 }

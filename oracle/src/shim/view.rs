@@ -326,6 +326,17 @@ impl<T> Iterator for Walk<T> {
         self.i += 1;
         Some(self.grid.at(self.i - 1, self.j))
     }
+    /// A walk from the start, as two plain loops.
+    #[inline]
+    fn fold<B, F: FnMut(B, NonNull<T>) -> B>(self, init: B, mut f: F) -> B {
+        let mut so_far = init;
+        for j in 0..self.grid.cols {
+            for i in 0..self.grid.rows {
+                so_far = f(so_far, self.grid.at(i, j));
+            }
+        }
+        so_far
+    }
 }
 
 pub struct Read<'a, T>(Walk<T>, PhantomData<&'a T>);
@@ -337,12 +348,20 @@ impl<'a, T> Iterator for Read<'a, T> {
     fn next(&mut self) -> Option<&'a T> {
         self.0.next().map(|p| unsafe { &*p.as_ptr() })
     }
+    #[inline]
+    fn fold<B, F: FnMut(B, &'a T) -> B>(self, init: B, mut f: F) -> B {
+        self.0.fold(init, |so_far, p| f(so_far, unsafe { &*p.as_ptr() }))
+    }
 }
 impl<'a, T> Iterator for Write<'a, T> {
     type Item = &'a mut T;
     #[inline]
     fn next(&mut self) -> Option<&'a mut T> {
         self.0.next().map(|p| unsafe { &mut *p.as_ptr() })
+    }
+    #[inline]
+    fn fold<B, F: FnMut(B, &'a mut T) -> B>(self, init: B, mut f: F) -> B {
+        self.0.fold(init, |so_far, p| f(so_far, unsafe { &mut *p.as_ptr() }))
     }
 }
 
