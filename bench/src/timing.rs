@@ -1,9 +1,9 @@
 //! Times several sides by turns, and compares them repetition by repetition.
 //!
-//! On a rented machine a core's other thread may be at work for somebody else, unseen from here. While
-//! it is, what keeps the core's units busy (LAPACK) takes half as long again, what waits for one root
-//! after the other (ours) a tenth more: a ratio has two values. So a probe that keeps the units busy is
-//! timed around each side, and a repetition with a slow one is left out.
+//! In stretches of a millisecond to seconds, what keeps a core's units busy (LAPACK) takes half as long
+//! again, what waits for one root after the other (ours) a tenth more, all sides at once: as if the
+//! core's other thread worked for another guest. A ratio then has two values. So a probe that keeps the
+//! units busy is timed around each side, and a repetition with a slow one is left out.
 
 use crate::opaque::black_box;
 use std::sync::atomic::{AtomicU64, Ordering};
