@@ -26,28 +26,30 @@ fn shared(here: &Path) -> PathBuf {
     dir
 }
 
+/// What `&a - &b` needs with `T: RealField`, put after each signature.
+const LENT: &str = "where for<'x> &'x T: Ops<T>";
+/// The same where only `T: ComplexField` is known.
+const LENT_REAL: &str = "where for<'x> &'x T::Real: Ops<T::Real>";
+
 /// Writes one file for each module of src/taken.rs.
 fn extract(src: &Path, out: &Path) {
     let jacobi = Source::read(src, "linalg/jacobi.rs");
-    let methods = jacobi.functions(&["rotg", "adjoint"]);
-    let text =
-        format!("{}\nimpl<T: RealField> JacobiRotation<T> {{\n{methods}}}\n", jacobi.structure("JacobiRotation"));
-    write(out, "jacobi.rs", &text);
+    let (head, methods) = (jacobi.structure("JacobiRotation"), jacobi.functions(&["rotg", "adjoint"], ""));
+    write(out, "jacobi.rs", &format!("{head}\nimpl<T: RealField> JacobiRotation<T> {LENT} {{\n{methods}}}\n"));
 
     let house = Source::read(src, "linalg/householder.rs");
-    let text =
-        house.structure("HouseholderInfo") + &house.functions(&["make_householder_imp", "make_householder_in_place"]);
-    write(out, "householder.rs", &text);
+    let functions = house.functions(&["make_householder_imp", "make_householder_in_place"], LENT);
+    write(out, "householder.rs", &(house.structure("HouseholderInfo") + &functions));
 
     let schur = Source::read(src, "linalg/evd/schur/real_schur.rs");
     let leaves = ["lasy2", "lahqr_schur22", "schur_swap_11", "schur_swap_12", "schur_swap_21", "schur_swap_22"];
-    write(out, "leaves.rs", &schur.functions(&leaves));
-    write(out, "real_schur.rs", &schur.functions(&["schur_swap"]));
+    write(out, "leaves.rs", &schur.functions(&leaves, LENT));
+    write(out, "real_schur.rs", &schur.functions(&["schur_swap"], LENT));
 
     let eigen = Source::read(src, "operator/eigen/mod.rs");
-    let text = eigen.functions(&["schur_swap"]) + &noted(&eigen.functions(&["reorder_schur"]));
+    let text = eigen.functions(&["schur_swap"], LENT_REAL) + &noted(&eigen.functions(&["reorder_schur"], LENT_REAL));
     write(out, "eigen.rs", &text);
-    let whole = eigen.functions(&["partial_schur_real_imp"]);
+    let whole = eigen.functions(&["partial_schur_real_imp"], "");
     write(out, "block_values.rs", &block_values(&whole));
 
     let evd = Source::read(src, "linalg/evd/mod.rs");
@@ -58,7 +60,7 @@ fn extract(src: &Path, out: &Path) {
         "solve_real_shifted_upper_quasi_triangular_system",
         "solve_cplx_shifted_upper_quasi_triangular_system",
     ];
-    write(out, "evd.rs", &evd.functions(&names));
+    write(out, "evd.rs", &evd.functions(&names, LENT));
 }
 
 /// `reorder_schur` with notes put in: the row where it leaves off, and each split.
@@ -73,10 +75,10 @@ fn block_values(text: &str) -> String {
     let at = text.rfind("while ").expect("a loop");
     let body = &text[at..at + closing(&text[at..])];
     let head = "pub fn block_values<T: RealField>(H: MatRef<'_, T>, V: MatRef<'_, T>, \
-        eigvals: &mut [Complex<T>], eigvecs: MatMut<'_, Complex<T>>) {";
+        eigvals: &mut [Complex<T>], eigvecs: MatMut<'_, Complex<T>>)";
     let set = "let (n, limit, perm) = (H.nrows(), H.nrows(), &ROWS); \
         let mut eigvecs = eigvecs; let mut idx = 0usize;";
-    format!("{head}\n{set}\n{body}\n}}\n")
+    format!("{head} {LENT} {{\n{set}\n{body}\n}}\n")
 }
 
 /// Replaces `from`, which must be there exactly `count` times.
@@ -103,9 +105,10 @@ impl Source {
         Source { name: name.to_string(), text }
     }
 
-    /// The named functions, from `fn` to the closing brace, each made `pub`.
-    fn functions(&self, names: &[&str]) -> String {
-        names.iter().map(|name| self.item("fn", name, &['<', '('])).collect()
+    /// The named functions, from `fn` to the closing brace, each made `pub`, with a bound after the signature.
+    fn functions(&self, names: &[&str], bound: &str) -> String {
+        let taken = |name: &&str| self.item("fn", name, &['<', '(']).replacen('{', &format!("{bound} {{"), 1);
+        names.iter().map(taken).collect::<String>().replace("const { T::IS_REAL }", "T::IS_REAL")
     }
 
     fn structure(&self, name: &str) -> String {
@@ -142,7 +145,10 @@ fn closing(text: &str) -> usize {
 
 /// Links VOLMEIXI_ARCHIVE, if given, and sets `cfg(vx_NAME)` for each call it defines.
 fn link_archive(here: &Path) {
-    let Ok(path) = env::var("VOLMEIXI_ARCHIVE") else { return };
+    let path = match env::var("VOLMEIXI_ARCHIVE") {
+        Ok(path) => path,
+        Err(_) => return,
+    };
     let path = fs::canonicalize(here.join(&path)).unwrap_or_else(|e| panic!("VOLMEIXI_ARCHIVE {path}: {e}"));
     println!("cargo:rerun-if-changed={}", path.display());
     let listed = Command::new("nm").arg("-g").arg("--defined-only").arg(&path).output().expect("nm");

@@ -1,13 +1,13 @@
 //! Times the root beside the processor's instruction, and the modulus beside the Rust's and libm's.
 
 use crate::forms::between;
+use crate::opaque::black_box;
 use crate::report::{Report, nanoseconds, shown};
 use crate::rng::Rng;
 use crate::sides::*;
 use crate::speed::{Plan, SEED};
 use crate::table::Table;
 use crate::timing::Times;
-use std::hint::black_box;
 use std::time::{Duration, Instant};
 
 const COUNT: usize = 512;
@@ -50,11 +50,12 @@ pub fn arithmetic(plan: &Plan, report: &mut Report) -> Table {
         }
         let times = Times::take(2, COUNT, plan.budget, run);
         let ratio = times.ratio(0, 1, plan.least);
+        report.note(&[ratio], &times);
         table.add(vec![
             name.to_string(),
             beside.to_string(),
-            nanoseconds(times.nanoseconds(0)),
-            nanoseconds(times.nanoseconds(1)),
+            nanoseconds(&times, 0),
+            nanoseconds(&times, 1),
             shown(ratio),
             report.judged(most, &[beside], &[ratio]),
         ]);

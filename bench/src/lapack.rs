@@ -1,7 +1,8 @@
 //! A LAPACK opened while the program runs, so that two of them can be timed in one process.
 
-use std::ffi::{CStr, CString, c_char, c_int, c_void};
+use std::ffi::{CStr, CString};
 use std::mem::MaybeUninit;
+use std::os::raw::{c_char, c_int, c_void};
 
 type Int<'a> = &'a c_int;
 type Dtrexc = unsafe extern "C" fn(
@@ -36,7 +37,7 @@ type Dtrevc3 = unsafe extern "C" fn(
     len: usize,
     len2: usize,
 );
-unsafe extern "C" {
+extern "C" {
     fn dlopen(path: *const c_char, flags: c_int) -> *mut c_void;
     fn dlsym(library: *mut c_void, name: *const c_char) -> *mut c_void;
     fn dlerror() -> *const c_char;
@@ -63,15 +64,18 @@ impl Lapack {
                 return Err(unsafe { CStr::from_ptr(dlerror()) }.to_string_lossy().into_owned());
             }
         }
-        let find = |name: &CStr| match unsafe { dlsym(library, name.as_ptr()) } {
-            place if place.is_null() => Err(format!("{paths} has no {}", name.to_string_lossy())),
-            place => Ok(place),
+        let find = |name: &str| {
+            let text = CString::new(name).map_err(|e| e.to_string())?;
+            match unsafe { dlsym(library, text.as_ptr()) } {
+                place if place.is_null() => Err(format!("{paths} has no {name}")),
+                place => Ok(place),
+            }
         };
         // The two types above are LAPACK's own.
         unsafe {
             Ok(Lapack {
-                dtrexc: std::mem::transmute::<*mut c_void, Dtrexc>(find(c"dtrexc_")?),
-                dtrevc3: std::mem::transmute::<*mut c_void, Dtrevc3>(find(c"dtrevc3_")?),
+                dtrexc: std::mem::transmute::<*mut c_void, Dtrexc>(find("dtrexc_")?),
+                dtrevc3: std::mem::transmute::<*mut c_void, Dtrevc3>(find("dtrevc3_")?),
             })
         }
     }
@@ -81,10 +85,10 @@ impl Lapack {
     pub fn reorder(&self, n: usize, t: &mut [f64], u: &mut [f64], from: usize, to: usize) -> c_int {
         let mut work = MaybeUninit::<[f64; MOST]>::uninit();
         let (size, mut ifst, mut ilst, mut info) = (n as c_int, from as c_int + 1, to as c_int + 1, 0);
-        let wanted = if u.is_empty() { c"N" } else { c"V" };
+        let wanted = if u.is_empty() { b'N' } else { b'V' } as c_char;
         unsafe {
             (self.dtrexc)(
-                wanted.as_ptr(),
+                &wanted,
                 &size,
                 t.as_mut_ptr(),
                 &size,
@@ -107,8 +111,8 @@ impl Lapack {
         let (size, lwork, mut m, mut info, mut none) = (n as c_int, 3 * n as c_int, 0, 0, [0.0]);
         unsafe {
             (self.dtrevc3)(
-                c"R".as_ptr(),
-                c"A".as_ptr(),
+                &(b'R' as c_char),
+                &(b'A' as c_char),
                 select.as_mut_ptr().cast(),
                 &size,
                 t.as_ptr(),

@@ -10,6 +10,10 @@ mod exact;
 mod forms;
 mod lapack;
 mod note;
+mod opaque;
+#[allow(dead_code)]
+#[path = "../../oracle/src/progress.rs"]
+mod progress;
 mod report;
 #[allow(dead_code)]
 #[path = "../../oracle/src/generate/rng.rs"]
@@ -58,7 +62,7 @@ fn run() -> Result<(), String> {
         return Err(format!("no option {unknown}; see the head of bench/run"));
     }
     let sides = speed::Sides { all: [Side::Ours, Side::Rust, open("BENCH_LAPACK")?, open("BENCH_OPENBLAS")?] };
-    if words.first().is_some_and(|word| word == "accuracy") {
+    if words.first().map_or(false, |word| word == "accuracy") {
         accuracy::run(&sides, if quick { 4 } else { 50 }, markdown);
     } else {
         let budget = Duration::from_millis(if quick { 60 } else { 600 });

@@ -2,7 +2,7 @@
 
 use crate::speed::SIZES;
 use crate::table::Table;
-use crate::timing::Spread;
+use crate::timing::{Spread, Times};
 
 /// The sides, in the order of the columns.
 pub const NAMES: [&str; 4] = ["ours", "the Rust", "LAPACK", "OpenBLAS"];
@@ -11,12 +11,14 @@ pub fn shown(x: Spread) -> String {
     if x.low == x.high {
         return format!("{:.2}", x.middle);
     }
-    format!("{:.2} ({:.2}–{:.2})", x.middle, x.low, x.high)
+    format!("{:.2} ({:.2}–{:.2}){}", x.middle, x.low, x.high, if x.wide() { " ~" } else { "" })
 }
 
-pub fn nanoseconds(x: Spread) -> String {
+/// The middle time of a side, marked where the core was shared all the while.
+pub fn nanoseconds(times: &Times, side: usize) -> String {
+    let x = times.nanoseconds(side);
     let digits = if x.middle < 100.0 { 1 } else { 0 };
-    format!("{:.digits$}", x.middle)
+    format!("{:.digits$}{}", x.middle, if times.shared { " *" } else { "" })
 }
 
 /// Compared as it is printed.
@@ -36,16 +38,53 @@ pub struct Report {
     rows: Vec<(String, [String; SIZES.len()])>,
     asked: usize,
     met: usize,
+    /// Rows timed, with wide quartiles, on a shared core; parts left out, added up.
+    timed: usize,
+    wide: usize,
+    shared: usize,
+    left_out: f64,
+    /// The ratios of the rows that time the same call on the same form.
+    same: Vec<(String, Vec<Vec<f64>>)>,
 }
 
 impl Report {
     pub fn new() -> Report {
-        Report { rows: Vec::new(), asked: 0, met: 0 }
+        Report { rows: Vec::new(), asked: 0, met: 0, timed: 0, wide: 0, shared: 0, left_out: 0.0, same: Vec::new() }
+    }
+
+    /// Counts a row, and what is to be said of its times.
+    pub fn note(&mut self, ratios: &[Spread], times: &Times) {
+        self.timed += 1;
+        self.wide += usize::from(ratios.iter().any(|x| x.wide()));
+        self.shared += usize::from(times.shared);
+        self.left_out += times.left_out;
+    }
+
+    /// Keeps the ratios by what is called.
+    pub fn same_call(&mut self, call: String, ratios: &[Spread]) {
+        let middles = ratios.iter().map(|x| x.middle).collect();
+        match self.same.iter_mut().find(|(name, _)| *name == call) {
+            Some((_, rows)) => rows.push(middles),
+            None => self.same.push((call, vec![middles])),
+        }
+    }
+
+    /// How many rows time a call that another row times too, and how far their ratios lie apart at most.
+    fn agreement(&self) -> (usize, f64) {
+        let groups = self.same.iter().map(|(_, rows)| rows).filter(|rows| rows.len() > 1);
+        let apart = |rows: &Vec<Vec<f64>>| {
+            let side = |k: usize| rows.iter().map(move |row| row[k]);
+            (0..rows[0].len())
+                .map(|k| side(k).fold(0.0, f64::max) / side(k).fold(f64::MAX, f64::min) - 1.0)
+                .fold(0.0, f64::max)
+        };
+        groups.fold((0, 0.0), |(count, most), rows| (count + rows.len(), f64::max(most, apart(rows))))
     }
 
     /// Keeps the ratios of a row, and hands back the verdict where something is asked of it.
-    pub fn add(&mut self, name: &str, n: usize, most: Option<f64>, ratios: &[Spread]) -> String {
-        if self.rows.last().is_none_or(|row| row.0 != name) {
+    pub fn add(&mut self, name: &str, n: usize, most: Option<f64>, ratios: &[Spread], times: &Times) -> String {
+        self.note(ratios, times);
+        if self.rows.last().map_or(true, |row| row.0 != name) {
             self.rows.push((name.to_string(), Default::default()));
         }
         let cell = |x: &Spread| match most {
@@ -61,7 +100,10 @@ impl Report {
 
     /// The verdict alone.
     pub fn judged(&mut self, most: Option<f64>, names: &[&str], ratios: &[Spread]) -> String {
-        let Some(most) = most else { return "–".to_string() };
+        let most = match most {
+            Some(most) => most,
+            None => return "–".to_string(),
+        };
         self.asked += 1;
         self.met += usize::from(!ratios.iter().any(|x| above(*x, most)));
         verdict(most, names, ratios)
@@ -82,6 +124,20 @@ impl Report {
             println!(
                 "Reached against all sides: {} of the {} rows of which something is asked.\n",
                 self.met, self.asked
+            );
+        }
+        println!(
+            "~ quartiles more than 5 % apart: {} of {} rows. * core shared all the while: {}. \
+             Left out as the core was shared: {:.0} % of all repetitions.\n",
+            self.wide,
+            self.timed,
+            self.shared,
+            100.0 * self.left_out / self.timed.max(1) as f64
+        );
+        if let (count @ 2.., apart) = self.agreement() {
+            println!(
+                "{count} rows time a call that another row times too: their ratios lie at most {:.1} % apart.\n",
+                100.0 * apart
             );
         }
     }

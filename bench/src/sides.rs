@@ -5,7 +5,7 @@ use crate::lapack::Lapack;
 use crate::shim::*;
 use crate::taken::{eigen, evd};
 
-unsafe extern "C" {
+extern "C" {
     fn vx_reorder_schur(
         n: usize,
         t: *mut f64,
@@ -133,7 +133,7 @@ pub fn hardware_sqrt(x: f64) -> f64 {
         root
     }
     #[cfg(not(target_arch = "x86_64"))]
-    std::hint::black_box(x).sqrt()
+    crate::opaque::black_box(x).sqrt()
 }
 
 /// The same behind a call, as our root is.

@@ -2,13 +2,13 @@
 
 use crate::arithmetic::arithmetic;
 use crate::forms::{Form, Kind, unit};
+use crate::opaque::black_box;
+use crate::progress::on_terminal;
 use crate::report::{NAMES, Report, nanoseconds, shown};
 use crate::shim::Complex;
 use crate::sides::*;
 use crate::table::Table;
 use crate::timing::{Spread, Times};
-use std::hint::black_box;
-use std::io::IsTerminal;
 use std::time::{Duration, Instant};
 
 pub const SIZES: [usize; 5] = [4, 8, 16, 32, 64];
@@ -46,7 +46,7 @@ pub fn run(plan: &Plan, sides: &Sides) {
     let tables = [
         ("Moves", moves(plan, sides, report)),
         ("Vectors", vectors(plan, sides, report)),
-        ("Values (LAPACK has no routine that only reads the values off a form)", values(plan)),
+        ("Values (LAPACK has no routine that only reads the values off a form)", values(plan, report)),
         ("Root and modulus", arithmetic(plan, report)),
     ];
     progress("");
@@ -56,12 +56,12 @@ pub fn run(plan: &Plan, sides: &Sides) {
 
 /// Shown on a terminal only, on one line that is wiped at the end.
 fn progress(text: &str) {
-    if std::io::stderr().is_terminal() {
+    if on_terminal() {
         eprint!("\r\x1b[K{text}");
     }
 }
 
-/// What issue 6 of 6 asks of moves of more than one exchange and of vectors.
+/// What is asked of moves of more than one exchange and of vectors: docs/BENCHMARKS.md.
 fn target(n: usize) -> f64 {
     if n >= 16 { 1.0 } else { 1.5 }
 }
@@ -92,14 +92,15 @@ fn moves(plan: &Plan, sides: &Sides, report: &mut Report) -> Table {
                     let swaps = check_moves(sides, &form, with_factor, &moves);
                     let times = time_moves(plan, sides, &form, with_factor, &moves);
                     let ratios: Vec<Spread> = (1..4).map(|k| times.ratio(0, k, plan.least)).collect();
-                    let said = report.add(&name, n, (swaps > 1).then(|| target(n)), &ratios);
+                    report.same_call(format!("{} {suffix} n = {n} {moves:?}", kind.name()), &ratios);
+                    let said = report.add(&name, n, (swaps > 1).then(|| target(n)), &ratios, &times);
                     table.add(vec![
                         what.to_string(),
                         kind.name().to_string(),
                         factor.to_string(),
                         n.to_string(),
                         swaps.to_string(),
-                        nanoseconds(times.nanoseconds(0)),
+                        nanoseconds(&times, 0),
                         shown(ratios[0]),
                         shown(ratios[1]),
                         shown(ratios[2]),
@@ -141,8 +142,8 @@ fn time_moves(plan: &Plan, sides: &Sides, form: &Form, with_factor: bool, moves:
     let factor = if with_factor { unit(n) } else { Vec::new() };
     let fitting = BATCH_BYTES / (8 * (places + factor.len()));
     let copies = fitting.min(runs_that_fit(sides.all[0], form, &factor, moves)).clamp(1, MOST_COPIES);
-    let mut t = vec![0.0; copies * places];
-    let mut u = vec![0.0; copies * factor.len()];
+    let (mut t, mut u) = (Lines::new(copies * places), Lines::new(copies * factor.len()));
+    let (t, u) = (t.numbers(), u.numbers());
     Times::take(sides.all.len(), copies, plan.budget, |k| {
         let side = sides.all[k];
         for copy in 0..copies {
@@ -158,19 +159,41 @@ fn time_moves(plan: &Plan, sides: &Sides, form: &Form, with_factor: bool, moves:
             }
         }
         let taken = start.elapsed();
-        black_box((&mut t, &mut u));
+        black_box((&mut *t, &mut *u));
         taken
     })
 }
 
-/// How many runs of ours fit in a batch that is over before another process gets the core.
-fn runs_that_fit(side: Side, form: &Form, factor: &[f64], moves: &[(usize, usize)]) -> usize {
-    let (mut t, mut u) = (form.t.clone(), factor.to_vec());
-    let start = Instant::now();
-    for &(from, to) in moves {
-        black_box(side.reorder(form.n, &mut t, &mut u, from, to));
+/// Numbers from the beginning of a cache line on, so that every row finds them alike.
+struct Lines {
+    all: Vec<f64>,
+    len: usize,
+}
+
+impl Lines {
+    fn new(len: usize) -> Lines {
+        Lines { all: vec![0.0; len + 8], len }
     }
-    (BATCH_TIME.as_nanos() / start.elapsed().as_nanos().max(1)) as usize
+
+    fn numbers(&mut self) -> &mut [f64] {
+        let skipped = (64 - self.all.as_ptr() as usize % 64) / 8 % 8;
+        &mut self.all[skipped..skipped + self.len]
+    }
+}
+
+/// How many runs of ours fit in a batch that is over before another process gets the core: a power of
+/// two, by the least of some runs, so that rows of the same call have as many.
+fn runs_that_fit(side: Side, form: &Form, factor: &[f64], moves: &[(usize, usize)]) -> usize {
+    let time = |_| {
+        let (mut t, mut u) = (form.t.clone(), factor.to_vec());
+        let start = Instant::now();
+        for &(from, to) in moves {
+            black_box(side.reorder(form.n, &mut t, &mut u, from, to));
+        }
+        start.elapsed().as_nanos().max(1)
+    };
+    let runs = (BATCH_TIME.as_nanos() / (0..20).map(time).min().unwrap()) as usize;
+    (runs + 1).next_power_of_two() / 2
 }
 
 /// Runs in one timed batch, so that it lasts some microseconds.
@@ -204,12 +227,12 @@ fn vectors(plan: &Plan, sides: &Sides, report: &mut Report) -> Table {
                 start.elapsed()
             });
             let ratios: Vec<Spread> = (1..4).map(|k| times.ratio(0, k, plan.least)).collect();
-            let said = report.add(&name, n, Some(target(n)), &ratios);
+            let said = report.add(&name, n, Some(target(n)), &ratios, &times);
             table.add(vec![
                 "vectors".to_string(),
                 kind.name().to_string(),
                 n.to_string(),
-                nanoseconds(times.nanoseconds(0)),
+                nanoseconds(&times, 0),
                 shown(ratios[0]),
                 shown(ratios[1]),
                 shown(ratios[2]),
@@ -220,7 +243,7 @@ fn vectors(plan: &Plan, sides: &Sides, report: &mut Report) -> Table {
     table
 }
 
-fn values(plan: &Plan) -> Table {
+fn values(plan: &Plan, report: &mut Report) -> Table {
     let mut table = Table::new(plan.markdown, &["", "blocks", "n", "ours, ns", "ours/Rust"]);
     for kind in Kind::ALL {
         for n in SIZES {
@@ -246,13 +269,10 @@ fn values(plan: &Plan) -> Table {
                 }
                 start.elapsed()
             });
+            let ratio = times.ratio(0, 1, plan.least);
+            report.note(&[ratio], &times);
             let name = "values".to_string();
-            let cells = [
-                kind.name().to_string(),
-                n.to_string(),
-                nanoseconds(times.nanoseconds(0)),
-                shown(times.ratio(0, 1, plan.least)),
-            ];
+            let cells = [kind.name().to_string(), n.to_string(), nanoseconds(&times, 0), shown(ratio)];
             table.add([name].into_iter().chain(cells).collect());
         }
     }

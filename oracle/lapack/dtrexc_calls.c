@@ -6,10 +6,8 @@
    A pattern is a number whose bit J-1 says that T(J+1,J) is zero: the first as DTREXC finds it, each next as a call leaves it.
    Then the calls that were made, and ILST and INFO at the end.
 
-   cc -O1 -Wall -o dtrexc_calls dtrexc_calls.c -Wl,--wrap=dlaexc_ \
-       /usr/lib/x86_64-linux-gnu/lapack/liblapack.a /usr/lib/x86_64-linux-gnu/blas/libblas.a -lgfortran -lm
-   ./dtrexc_calls SEED RUNS       runs by dice
-   ./dtrexc_calls < FILE          the runs of a file again: it prints the same lines */
+   oracle/lapack/run calls SEED RUNS       runs by dice
+   oracle/lapack/run calls < FILE          the runs of a file again: it prints the same lines */
 #include <stdio.h>
 #include <stdlib.h>
 #include <string.h>
@@ -42,8 +40,9 @@ static void set_subdiagonal(int p) {
     for (int j = 0; j < LD - 1; j++) t[j + 1 + LD * j] = p >> j & 1 ? (j & 1 ? -0.0 : 0.0) : j % 3 ? 1.5 : 0.0 / 0.0;
 }
 
-void __wrap_dlaexc_(const int *wantq, const int *n, double *tt, const int *ldt, double *q, const int *ldq, const int *j1,
-                    const int *n1, const int *n2, double *work, int *info) {
+/* Stands before LAPACK's own when the program is linked. */
+void dlaexc_(const int *wantq, const int *n, double *tt, const int *ldt, double *q, const int *ldq, const int *j1,
+             const int *n1, const int *n2, double *work, int *info) {
     (void)wantq, (void)n, (void)tt, (void)ldt, (void)q, (void)ldq, (void)work;
     calls[made][0] = *j1, calls[made][1] = *n1, calls[made][2] = *n2;
     made++;

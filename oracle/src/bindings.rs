@@ -8,7 +8,7 @@ macro_rules! archive {
         pub fn $name() -> Option<unsafe extern "C" fn($($arg),*) -> $back> {
             #[cfg($name)]
             {
-                unsafe extern "C" {
+                extern "C" {
                     fn $name($(_: $arg),*) -> $back;
                 }
                 Some($name)

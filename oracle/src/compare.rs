@@ -4,7 +4,7 @@ use crate::generate::{self, Sizes};
 use crate::progress::Progress;
 use crate::record::{Record, Value};
 use crate::tally::Tally;
-use crate::{archive, calls};
+use crate::{archive, calls, fault};
 use std::io::{self, Write};
 use std::process::{Command, Stdio};
 
@@ -28,7 +28,7 @@ pub fn run(plan: &Plan) -> io::Result<bool> {
     println!("absent: {}", found.absent.join(" "));
     println!("differences: {}", found.differing);
     if found.compared.is_empty() {
-        return Err(io::Error::other("nothing to compare with: build with VOLMEIXI_ARCHIVE, or give --sheet"));
+        return Err(fault("nothing to compare with: build with VOLMEIXI_ARCHIVE, or give --sheet"));
     }
     Ok(found.differing == 0)
 }
@@ -59,9 +59,12 @@ fn compare(plan: &Plan, name: &'static str, progress: &mut Progress) -> io::Resu
     let (mut tally, mut differing) = (Tally::default(), 0);
     for index in 0..plan.count {
         let case = generate::case(name, plan.seed, index, plan.sizes);
-        let Some(ours) = other_side(plan, &case)? else {
-            progress.skip(plan.count);
-            return Ok(None);
+        let ours = match other_side(plan, &case)? {
+            Some(ours) => ours,
+            None => {
+                progress.skip(plan.count);
+                return Ok(None);
+            }
         };
         let (rust, notes) = calls::answer(&case);
         tally.add(&rust, &notes);
@@ -89,7 +92,7 @@ pub fn replay(lines: impl Iterator<Item = io::Result<Record>>) -> io::Result<boo
     for case in lines {
         let case = case?;
         let rust = calls::answer(&case).0;
-        let ours = archive::answer(&case).ok_or(io::Error::other(format!("the archive has no {}", case.call)))?;
+        let ours = archive::answer(&case).ok_or(fault(format!("the archive has no {}", case.call)))?;
         match rust.difference(&ours) {
             None => println!("{case}\n  the same:    {rust}"),
             Some(place) => {

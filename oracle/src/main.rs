@@ -56,7 +56,7 @@ fn main() -> ExitCode {
         ["scale", seed] => number(seed).and_then(|seed| scale::run(seed, false)),
         ["scale", seed, "--each"] => number(seed).and_then(|seed| scale::run(seed, true)),
         ["vectors", ref words @ ..] => write_vectors(words).map(|()| true),
-        _ => Err(io::Error::other(USAGE)),
+        _ => Err(fault(USAGE)),
     };
     match done {
         Ok(true) => ExitCode::SUCCESS,
@@ -68,13 +68,18 @@ fn main() -> ExitCode {
     }
 }
 
+/// What stops a command, in words.
+fn fault(why: impl Into<String>) -> io::Error {
+    io::Error::new(io::ErrorKind::Other, why.into())
+}
+
 /// The cases on standard input, one a line.
 fn cases() -> impl Iterator<Item = io::Result<Record>> {
     io::stdin()
         .lock()
         .lines()
         .enumerate()
-        .map(|(i, line)| Record::parse(&line?).map_err(|why| io::Error::other(format!("line {}: {why}", i + 1))))
+        .map(|(i, line)| Record::parse(&line?).map_err(|why| fault(format!("line {}: {why}", i + 1))))
 }
 
 /// One answer for each case.
@@ -95,11 +100,11 @@ fn sheet() -> io::Result<()> {
 /// The calls that a word on the command line means.
 fn calls_of(word: &str) -> io::Result<Vec<&'static str>> {
     let names: Vec<&str> = record::CALLS.iter().map(|c| c.name).filter(|name| word == "all" || word == *name).collect();
-    if names.is_empty() { Err(io::Error::other(format!("no call `{word}`"))) } else { Ok(names) }
+    if names.is_empty() { Err(fault(format!("no call `{word}`"))) } else { Ok(names) }
 }
 
 fn number<N: std::str::FromStr>(word: &str) -> io::Result<N> {
-    word.parse().map_err(|_| io::Error::other(format!("`{word}` is not a number")))
+    word.parse().map_err(|_| fault(format!("`{word}` is not a number")))
 }
 
 /// What `generate` or `compare` is asked to do.
@@ -111,12 +116,12 @@ fn plan(call: &str, count: &str, seed: &str, options: &[&str]) -> io::Result<Pla
             ["--n-min", n] => plan.sizes.least = number(n)?,
             ["--n-max", n] => plan.sizes.most = number(n)?,
             ["--sheet", program] => plan.sheet = Some(program.to_string()),
-            _ => return Err(io::Error::other(USAGE)),
+            _ => return Err(fault(USAGE)),
         }
     }
     let Sizes { least, most } = plan.sizes;
     if least == 0 || least > most || most > 64 {
-        return Err(io::Error::other("rows are 1 to 64, --n-min at most --n-max"));
+        return Err(fault("rows are 1 to 64, --n-min at most --n-max"));
     }
     Ok(plan)
 }
@@ -125,7 +130,7 @@ fn plan(call: &str, count: &str, seed: &str, options: &[&str]) -> io::Result<Pla
 fn write_vectors(words: &[&str]) -> io::Result<()> {
     let (calls, mut options) = words.split_at(words.iter().take_while(|word| !word.starts_with("--")).count());
     if calls.is_empty() {
-        return Err(io::Error::other(USAGE));
+        return Err(fault(USAGE));
     }
     let mut extent = vectors::WHOLE;
     loop {
@@ -133,7 +138,7 @@ fn write_vectors(words: &[&str]) -> io::Result<()> {
             [] => break,
             ["--classes", ref rest @ ..] => (extent.of_classes(), rest),
             ["--random", n, ref rest @ ..] => (extent.of_random(number(n)?), rest),
-            _ => return Err(io::Error::other(USAGE)),
+            _ => return Err(fault(USAGE)),
         };
     }
     vectors::write(calls, &extent, &mut BufWriter::new(io::stdout().lock()))

@@ -28,12 +28,12 @@ fn change(f: impl Fn(&mut Notes)) {
 
 /// Hands out the notes taken so far and starts afresh.
 pub fn take() -> Notes {
-    NOTES.take()
+    NOTES.with(Cell::take)
 }
 
 /// The notes taken so far.
 pub fn seen() -> Notes {
-    NOTES.get()
+    NOTES.with(Cell::get)
 }
 
 pub fn swap() {

@@ -1,5 +1,6 @@
 //! Cases of stored vectors that are chosen one by one, not drawn.
 
+use crate::generate::floats::next_up;
 use crate::picked_forms;
 use crate::record::Record;
 
@@ -59,7 +60,7 @@ fn systems() -> Vec<[[f64; 4]; 3]> {
     }
     for i in 0..4 {
         let mut near = base[0];
-        near[i] = f64::next_up(near[i]);
+        near[i] = next_up(near[i]);
         systems.push([base[0], near, base[2]]);
         systems.push([near, base[0], base[2]]);
     }

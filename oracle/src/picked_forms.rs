@@ -1,6 +1,7 @@
 //! Cases of stored vectors on forms: chosen one by one, or drawn until one has what is asked for.
 
 use crate::calls;
+use crate::generate::floats::next_up;
 use crate::generate::{self, Sizes};
 use crate::note::Notes;
 use crate::picked::ODD;
@@ -55,10 +56,15 @@ fn form(sizes: &[usize]) -> Vec<f64> {
     t
 }
 
+/// The rows of a square, of its numbers.
+fn rows(t: &[f64]) -> usize {
+    (t.len() as f64).sqrt() as usize
+}
+
 /// Blocks of size 2, and one of size 1 at the end if the rows are odd.
 fn twos(n: usize) -> Vec<usize> {
     let mut sizes = vec![2; n / 2];
-    sizes.resize(n.div_ceil(2), 1);
+    sizes.resize((n + 1) / 2, 1);
     sizes
 }
 
@@ -110,7 +116,8 @@ fn drawn(call: &'static str, n: usize, count: usize, wanted: impl Fn(&Record, &N
     let cases = (0..TRIES).filter_map(|index| generate::stored(call, SEED, index, Sizes { least: n, most: n }));
     let fits = |case: &Record| {
         let (answer, notes) = calls::answer(case);
-        case.n("n") == n && answer.find("answer").is_none_or(|_| answer.n("answer") == 0) && wanted(case, &notes)
+        let done = answer.find("answer").is_none() || answer.n("answer") == 0;
+        case.n("n") == n && done && wanted(case, &notes)
     };
     let found: Vec<Record> = cases.filter(fits).take(count).collect();
     assert_eq!(found.len(), count, "{call} of {n} rows");
@@ -124,7 +131,7 @@ fn near() -> Vec<Record> {
 
 /// So many numbers of every class, as drawn for n rows.
 fn content(n: usize, count: usize) -> Vec<f64> {
-    let lists = drawn("column", n, count.div_ceil(n * n).max(1), |c, _| c.l("v").len() == n * n);
+    let lists = drawn("column", n, ((count + n * n - 1) / (n * n)).max(1), |c, _| c.l("v").len() == n * n);
     lists.iter().flat_map(|case| case.l("v").to_vec()).take(count).collect()
 }
 
@@ -201,7 +208,7 @@ fn sizes(base: &Record) -> Vec<Record> {
 // ---- moves
 
 fn a_move(t: Vec<f64>, u: Vec<f64>, from: usize, to: usize) -> Record {
-    let n = t.len().isqrt();
+    let n = rows(&t);
     Record::new("reorder_schur").num("n", n).list("t", t).list("u", u).num("from", from).num("to", to)
 }
 
@@ -269,7 +276,7 @@ fn moves() -> Vec<Record> {
 // ---- exchanges
 
 fn an_exchange(t: Vec<f64>, u: Vec<f64>, j0: usize, n1: usize, n2: usize) -> Record {
-    let n = t.len().isqrt();
+    let n = rows(&t);
     Record::new("schur_swap").num("n", n).list("t", t).list("u", u).num("j0", j0).num("n1", n1).num("n2", n2)
 }
 
@@ -338,7 +345,7 @@ fn exchanges() -> Vec<Record> {
 // ---- vectors and values
 
 fn of_form(call: &'static str, t: Vec<f64>) -> Record {
-    let n = t.len().isqrt();
+    let n = rows(&t);
     let case = Record::new(call).num("n", n).list("t", t);
     if call == "evd_from_real_schur" {
         return case.list("v", content(n.max(1), n * n));
@@ -356,7 +363,7 @@ fn kinds() -> Vec<Vec<f64>> {
             let mut equal = form(&vec![1; n]);
             (0..n).for_each(|i| equal[i + n * i] = x);
             forms.push(equal.clone());
-            equal[n * n - 1] = f64::next_up(x);
+            equal[n * n - 1] = next_up(x);
             forms.push(equal);
         }
     }

@@ -1,7 +1,6 @@
 //! How far a long comparison has come, on standard error: one line that is written over on a
 //! terminal, else a line now and then.
 
-use std::io::{IsTerminal, stderr};
 use std::time::{Duration, Instant};
 
 pub struct Progress {
@@ -16,7 +15,7 @@ impl Progress {
     /// Of so many cases in all.
     pub fn new(total: u64) -> Progress {
         let now = Instant::now();
-        Progress { total, done: 0, begun: now, shown: now, terminal: stderr().is_terminal() }
+        Progress { total, done: 0, begun: now, shown: now, terminal: on_terminal() }
     }
 
     /// Cases that are not to be run after all.
@@ -48,4 +47,12 @@ impl Progress {
             eprint!("\r\x1b[K");
         }
     }
+}
+
+/// Whether standard error is a terminal, as C tells it.
+pub fn on_terminal() -> bool {
+    extern "C" {
+        fn isatty(file: i32) -> i32;
+    }
+    unsafe { isatty(2) == 1 }
 }

@@ -1,10 +1,10 @@
 //! The comparison at scale: every call that the archive has, on small cases and on large forms.
 
-use crate::bindings;
 use crate::compare::{self, Plan};
 use crate::generate::{self, Sizes};
 use crate::progress::Progress;
 use crate::record::CALLS;
+use crate::{bindings, fault};
 use std::io;
 
 pub const SEED: u64 = 20_261_116;
@@ -16,12 +16,12 @@ const WITH_A_FORM: [&str; 4] = ["schur_swap", "reorder_schur", "block_values", "
 /// The counts are of all calls together, or of each; true if nothing differed.
 pub fn run(seed: u64, each: bool) -> io::Result<bool> {
     if bindings::vx_abs().is_none() {
-        return Err(io::Error::other("nothing to compare with: build with VOLMEIXI_ARCHIVE"));
+        return Err(fault("nothing to compare with: build with VOLMEIXI_ARCHIVE"));
     }
     // Those that the archive has no call for are a part of others, or of the program.
     let all: Vec<&str> =
         CALLS.iter().map(|call| call.name).filter(|name| !["inner_prod", "column", "sheet"].contains(name)).collect();
-    let share = |count: u64, calls: usize| if each { count } else { count.div_ceil(calls as u64) };
+    let share = |count: u64, calls: usize| if each { count } else { (count + calls as u64 - 1) / calls as u64 };
     let plan = |calls: &[&'static str], count: u64, sizes: Sizes| Plan {
         calls: calls.to_vec(),
         count: share(count, calls.len()),
@@ -39,7 +39,7 @@ pub fn run(seed: u64, each: bool) -> io::Result<bool> {
         println!("{what}, {} of each call, seed {seed}", plan.count);
         let found = compare::compare_all(plan, &mut progress)?;
         if !found.absent.is_empty() {
-            return Err(io::Error::other(format!("the archive has no {}", found.absent.join(", "))));
+            return Err(fault(format!("the archive has no {}", found.absent.join(", "))));
         }
         differing += found.differing;
     }

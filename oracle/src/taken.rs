@@ -50,7 +50,10 @@ pub mod real_schur {
 
     macro_rules! counted {
         ($($name:ident)*) => { $(
-            fn $name<T: RealField>(a: MatMut<'_, T>, q: Option<MatMut<'_, T>>, j0: usize) -> isize {
+            fn $name<T: RealField>(a: MatMut<'_, T>, q: Option<MatMut<'_, T>>, j0: usize) -> isize
+            where
+                for<'x> &'x T: Ops<T>,
+            {
                 note::swap();
                 let info = leaves::$name(a, q, j0);
                 if info != 0 {
@@ -95,7 +98,10 @@ mod schur {
             j0: usize,
             n1: usize,
             n2: usize,
-        ) -> isize {
+        ) -> isize
+        where
+            for<'x> &'x T: Ops<T>,
+        {
             let open = |j: usize, size: usize| size == 2 && a[(j + 1, j)] == zero();
             if open(j0, n1) || open(j0 + n1, n2) {
                 note::split();

@@ -3,6 +3,7 @@
 //! expected ones after them, always the same count for a call. README.md lists the words.
 
 use crate::calls::{self, EXCHANGED, MOVED};
+use crate::fault;
 use crate::generate::floats::{EDGES, PATTERNS};
 use crate::generate::{self, USUAL};
 use crate::picked::picked;
@@ -64,7 +65,7 @@ impl Extent {
 pub fn write(names: &[&str], extent: &Extent, out: &mut impl Write) -> io::Result<()> {
     let unknown = names.iter().find(|name| **name != "all" && !STORED.iter().any(|s| s.0 == **name));
     if let Some(name) = unknown {
-        return Err(io::Error::other(format!("`{name}` has no stored vectors")));
+        return Err(fault(format!("`{name}` has no stored vectors")));
     }
     for (name, random) in STORED.iter().filter(|s| names.contains(&s.0) || names.contains(&"all")) {
         for (index, case) in cases(name, *random, extent).iter().enumerate() {
@@ -133,11 +134,11 @@ fn words(case: &Record) -> Vec<u64> {
     }
 }
 
-fn floats(record: &Record) -> impl Iterator<Item = u64> {
+fn floats(record: &Record) -> impl Iterator<Item = u64> + '_ {
     record.fields.iter().filter_map(|(_, value)| if let Value::Float(x) = value { Some(x.to_bits()) } else { None })
 }
 
-fn bits(list: &[f64]) -> impl Iterator<Item = u64> {
+fn bits(list: &[f64]) -> impl Iterator<Item = u64> + '_ {
     list.iter().map(|x| x.to_bits())
 }
 

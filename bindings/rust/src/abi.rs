@@ -2,16 +2,16 @@
 //! reference. What each gives is said in bindings/c/volmeixi.h.
 
 // No call here keeps a pointer, and none reads or writes past a given length.
-unsafe extern "C" {
-    pub safe fn vx_abs(x: f64) -> f64;
-    pub safe fn vx_abs1(x: f64) -> f64;
-    pub safe fn vx_abs2(x: f64) -> f64;
-    pub safe fn vx_recip(x: f64) -> f64;
-    pub safe fn vx_mul_pow2(x: f64, p: f64) -> f64;
-    pub safe fn vx_fmax(p: f64, q: f64) -> f64;
-    pub safe fn vx_fmin(p: f64, q: f64) -> f64;
-    pub safe fn vx_sqrt(x: f64) -> f64;
-    pub safe fn vx_hypot(p: f64, q: f64) -> f64;
+extern "C" {
+    pub fn vx_abs(x: f64) -> f64;
+    pub fn vx_abs1(x: f64) -> f64;
+    pub fn vx_abs2(x: f64) -> f64;
+    pub fn vx_recip(x: f64) -> f64;
+    pub fn vx_mul_pow2(x: f64, p: f64) -> f64;
+    pub fn vx_fmax(p: f64, q: f64) -> f64;
+    pub fn vx_fmin(p: f64, q: f64) -> f64;
+    pub fn vx_sqrt(x: f64) -> f64;
+    pub fn vx_hypot(p: f64, q: f64) -> f64;
     pub fn vx_norm_l2(x: *const f64, x_len: usize) -> f64;
     pub fn vx_rotg(p: f64, q: f64, c: &mut f64, s: &mut f64, r: &mut f64);
     pub fn vx_adjoint(c: f64, s: f64, new_c: &mut f64, new_s: &mut f64);

@@ -8,7 +8,7 @@ use crate::abi;
 /// assert_eq!(volmeixi::abs(-3.0), 3.0);
 /// ```
 pub fn abs(x: f64) -> f64 {
-    abi::vx_abs(x)
+    unsafe { abi::vx_abs(x) }
 }
 
 /// The same, under the name that faer has for it.
@@ -17,7 +17,7 @@ pub fn abs(x: f64) -> f64 {
 /// assert_eq!(volmeixi::abs1(-3.0), 3.0);
 /// ```
 pub fn abs1(x: f64) -> f64 {
-    abi::vx_abs1(x)
+    unsafe { abi::vx_abs1(x) }
 }
 
 /// x × x.
@@ -26,7 +26,7 @@ pub fn abs1(x: f64) -> f64 {
 /// assert_eq!(volmeixi::abs2(-3.0), 9.0);
 /// ```
 pub fn abs2(x: f64) -> f64 {
-    abi::vx_abs2(x)
+    unsafe { abi::vx_abs2(x) }
 }
 
 /// 1 / x.
@@ -35,7 +35,7 @@ pub fn abs2(x: f64) -> f64 {
 /// assert_eq!(volmeixi::recip(4.0), 0.25);
 /// ```
 pub fn recip(x: f64) -> f64 {
-    abi::vx_recip(x)
+    unsafe { abi::vx_recip(x) }
 }
 
 /// x × p.
@@ -44,7 +44,7 @@ pub fn recip(x: f64) -> f64 {
 /// assert_eq!(volmeixi::mul_pow2(3.0, 0.5), 1.5);
 /// ```
 pub fn mul_pow2(x: f64, p: f64) -> f64 {
-    abi::vx_mul_pow2(x, p)
+    unsafe { abi::vx_mul_pow2(x, p) }
 }
 
 /// p where p > q or q is a NaN, else q.
@@ -53,7 +53,7 @@ pub fn mul_pow2(x: f64, p: f64) -> f64 {
 /// assert_eq!(volmeixi::fmax(1.0, f64::NAN), 1.0);
 /// ```
 pub fn fmax(p: f64, q: f64) -> f64 {
-    abi::vx_fmax(p, q)
+    unsafe { abi::vx_fmax(p, q) }
 }
 
 /// p where p < q or q is a NaN, else q.
@@ -62,7 +62,7 @@ pub fn fmax(p: f64, q: f64) -> f64 {
 /// assert_eq!(volmeixi::fmin(1.0, 2.0), 1.0);
 /// ```
 pub fn fmin(p: f64, q: f64) -> f64 {
-    abi::vx_fmin(p, q)
+    unsafe { abi::vx_fmin(p, q) }
 }
 
 /// The square root of IEEE 754: NaN of a NaN or a number below zero; zeros and plus infinity give
@@ -73,7 +73,7 @@ pub fn fmin(p: f64, q: f64) -> f64 {
 /// assert!(volmeixi::sqrt(-1.0).is_nan());
 /// ```
 pub fn sqrt(x: f64) -> f64 {
-    abi::vx_sqrt(x)
+    unsafe { abi::vx_sqrt(x) }
 }
 
 /// Infinity if either is infinite; else NaN if either is; else, with the larger magnitude g and the
@@ -83,7 +83,7 @@ pub fn sqrt(x: f64) -> f64 {
 /// assert_eq!(volmeixi::hypot(3.0, 4.0), 5.0);
 /// ```
 pub fn hypot(p: f64, q: f64) -> f64 {
-    abi::vx_hypot(p, q)
+    unsafe { abi::vx_hypot(p, q) }
 }
 
 /// The magnitude of the first number, then [`hypot`] with each next; of no number, +0.

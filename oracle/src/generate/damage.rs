@@ -40,7 +40,10 @@ fn resize(rng: &mut Rng, case: &mut Record, key: &str, n: usize) {
 
 /// An entry below the subdiagonal, or on it, that is not zero or a zero with its sign set.
 fn spoil_form(rng: &mut Rng, case: &mut Record, n: usize) {
-    let Some(Value::List(t)) = case.find_mut("t") else { return };
+    let t = match case.find_mut("t") {
+        Some(Value::List(t)) => t,
+        _ => return,
+    };
     if n < 2 || n > 64 || t.len() != n * n {
         return;
     }

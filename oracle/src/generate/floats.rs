@@ -103,6 +103,15 @@ pub fn near(rng: &mut Rng, x: f64) -> f64 {
     f64::from_bits(x.to_bits().wrapping_add(rng.between(-3, 3) as u64))
 }
 
+/// The next number above a finite one.
+pub fn next_up(x: f64) -> f64 {
+    f64::from_bits(match x.to_bits() {
+        _ if x == 0.0 => 1,
+        bits if x > 0.0 => bits + 1,
+        bits => bits - 1,
+    })
+}
+
 /// A subnormal of any number of digits.
 pub fn subnormal(rng: &mut Rng) -> f64 {
     f64::from_bits(rng.bits() >> rng.between(12, 63))

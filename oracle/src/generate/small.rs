@@ -174,7 +174,8 @@ fn solve(rng: &mut Rng, case: Record) -> Record {
     let tiny = |rng: &mut Rng| scaled(rng, -1022, -960);
     let wide = |rng: &mut Rng| scaled(rng, -300, 300);
     let close = |rng: &mut Rng, x: &[f64]| x.iter().map(|x| near(rng, *x)).collect::<Vec<f64>>();
-    let draw = rng.pick(&[any, unit, whole, huge, tiny, wide, ordinary as fn(&mut Rng) -> f64]);
+    let draws: [fn(&mut Rng) -> f64; 7] = [any, unit, whole, huge, tiny, wide, ordinary];
+    let draw = rng.pick(&draws);
     let tl = four(rng, draw);
     let (tr, b) = match rng.below(7) {
         0 => (tl.clone(), four(rng, draw)),

@@ -1,8 +1,7 @@
 //! The traits RealField and ComplexField, for f64 alone, and the constants.
 //!
-//! The Rust writes `&a - &b` with `T: RealField` as its only bound. A bound on `&'a Self` is not
-//! implied by a supertrait, but one on an associated type of a supertrait is: `Lend::Ref` is
-//! `&'a Self`, and its bound becomes that of the reference.
+//! The Rust writes `&a - &b` with `T: RealField` as its only bound; build.rs adds the bound on `&T`,
+//! which no supertrait can imply.
 
 use crate::arith;
 use core::ops::*;
@@ -36,13 +35,6 @@ pub trait AssignOps:
 }
 impl AssignOps for f64 {}
 
-pub trait Lend<'a> {
-    type Ref;
-}
-impl<'a> Lend<'a> for f64 {
-    type Ref = &'a f64;
-}
-
 /// An argument that may come by value or lent.
 pub trait ByRef<T> {
     fn lent(&self) -> &T;
@@ -58,15 +50,7 @@ impl<T> ByRef<T> for &T {
     }
 }
 
-pub trait ComplexField:
-    'static
-    + Sized
-    + PartialEq
-    + Ops<Self>
-    + AssignOps
-    + for<'a> Lend<'a, Ref = &'a Self>
-    + for<'a> Lend<'a, Ref: Ops<Self>>
-{
+pub trait ComplexField: 'static + Sized + PartialEq + Ops<Self> + AssignOps {
     type Real: RealField;
     const IS_REAL: bool;
     fn from_f64(x: f64) -> Self;

@@ -7,28 +7,13 @@ use core::marker::PhantomData;
 use core::ops::{Bound, Index, IndexMut, RangeBounds};
 use core::ptr::NonNull;
 
-/// A shorter loan of a view to read.
-pub trait Reborrow {
-    type Ref<'s>
-    where
-        Self: 's;
-    fn rb(&self) -> Self::Ref<'_>;
+/// A shorter loan of a view to write that may be absent; views have their own `rb` and `rb_mut`.
+pub trait ReborrowMut<T> {
+    fn rb_mut(&mut self) -> Option<MatMut<'_, T>>;
 }
 
-/// A shorter loan of a view to write.
-pub trait ReborrowMut {
-    type Mut<'s>
-    where
-        Self: 's;
-    fn rb_mut(&mut self) -> Self::Mut<'_>;
-}
-
-impl<V: ReborrowMut> ReborrowMut for Option<V> {
-    type Mut<'s>
-        = Option<V::Mut<'s>>
-    where
-        V: 's;
-    fn rb_mut(&mut self) -> Option<V::Mut<'_>> {
+impl<T> ReborrowMut<T> for Option<MatMut<'_, T>> {
+    fn rb_mut(&mut self) -> Option<MatMut<'_, T>> {
         self.as_mut().map(|v| v.rb_mut())
     }
 }
@@ -52,7 +37,7 @@ impl<T> Copy for Grid<T> {}
 impl<T> Grid<T> {
     fn at(&self, i: usize, j: usize) -> NonNull<T> {
         assert!(i < self.rows && j < self.cols);
-        unsafe { self.first.add(i * self.down + j * self.across) }
+        unsafe { NonNull::new_unchecked(self.first.as_ptr().add(i * self.down + j * self.across)) }
     }
 
     fn part(&self, i: usize, j: usize, rows: usize, cols: usize) -> Grid<T> {
@@ -165,7 +150,7 @@ impl<'a, T> MatMut<'a, T> {
         MatMut::new(self.grid.turned())
     }
     pub fn swap(&mut self, p: (usize, usize), q: (usize, usize)) {
-        unsafe { NonNull::swap(self.grid.at(p.0, p.1), self.grid.at(q.0, q.1)) }
+        unsafe { core::ptr::swap(self.grid.at(p.0, p.1).as_ptr(), self.grid.at(q.0, q.1).as_ptr()) }
     }
     pub fn ncols(&self) -> usize {
         self.grid.cols
@@ -257,15 +242,13 @@ impl<'a, T> RowRef<'a, T> {
 
 macro_rules! loans {
     ($($view:ident($read:ident) $inner:ident;)*) => { $(
-        impl<T> Reborrow for $view<'_, T> {
-            type Ref<'s> = $read<'s, T> where Self: 's;
-            fn rb(&self) -> $read<'_, T> {
+        impl<T> $view<'_, T> {
+            /// A shorter loan to read.
+            pub fn rb(&self) -> $read<'_, T> {
                 $inner!(rb $read self)
             }
-        }
-        impl<T> ReborrowMut for $view<'_, T> {
-            type Mut<'s> = $view<'s, T> where Self: 's;
-            fn rb_mut(&mut self) -> $view<'_, T> {
+            /// A shorter loan to write.
+            pub fn rb_mut(&mut self) -> $view<'_, T> {
                 $inner!(rb_mut $view self)
             }
         }
@@ -319,30 +302,85 @@ pub struct Zipped<P>(pub P);
 
 /// A view as the walk over its numbers, column after column.
 pub trait IntoPlaces {
-    type Item;
-    fn places(self) -> impl Iterator<Item = Self::Item>;
+    type Places: Iterator;
+    fn places(self) -> Self::Places;
 }
 
-fn walk<T>(grid: Grid<T>) -> impl Iterator<Item = NonNull<T>> {
-    (0..grid.cols).flat_map(move |j| (0..grid.rows).map(move |i| grid.at(i, j)))
+/// The walk over a grid.
+struct Walk<T> {
+    grid: Grid<T>,
+    i: usize,
+    j: usize,
+}
+
+impl<T> Iterator for Walk<T> {
+    type Item = NonNull<T>;
+    #[inline]
+    fn next(&mut self) -> Option<NonNull<T>> {
+        if self.i == self.grid.rows {
+            (self.i, self.j) = (0, self.j + 1);
+        }
+        if self.grid.rows == 0 || self.j >= self.grid.cols {
+            return None;
+        }
+        self.i += 1;
+        Some(self.grid.at(self.i - 1, self.j))
+    }
+    /// A walk from the start, as two plain loops.
+    #[inline]
+    fn fold<B, F: FnMut(B, NonNull<T>) -> B>(self, init: B, mut f: F) -> B {
+        let mut so_far = init;
+        for j in 0..self.grid.cols {
+            for i in 0..self.grid.rows {
+                so_far = f(so_far, self.grid.at(i, j));
+            }
+        }
+        so_far
+    }
+}
+
+pub struct Read<'a, T>(Walk<T>, PhantomData<&'a T>);
+pub struct Write<'a, T>(Walk<T>, PhantomData<&'a mut T>);
+
+impl<'a, T> Iterator for Read<'a, T> {
+    type Item = &'a T;
+    #[inline]
+    fn next(&mut self) -> Option<&'a T> {
+        self.0.next().map(|p| unsafe { &*p.as_ptr() })
+    }
+    #[inline]
+    fn fold<B, F: FnMut(B, &'a T) -> B>(self, init: B, mut f: F) -> B {
+        self.0.fold(init, |so_far, p| f(so_far, unsafe { &*p.as_ptr() }))
+    }
+}
+impl<'a, T> Iterator for Write<'a, T> {
+    type Item = &'a mut T;
+    #[inline]
+    fn next(&mut self) -> Option<&'a mut T> {
+        self.0.next().map(|p| unsafe { &mut *p.as_ptr() })
+    }
+    #[inline]
+    fn fold<B, F: FnMut(B, &'a mut T) -> B>(self, init: B, mut f: F) -> B {
+        self.0.fold(init, |so_far, p| f(so_far, unsafe { &mut *p.as_ptr() }))
+    }
 }
 
 impl<'a, T> IntoPlaces for MatRef<'a, T> {
-    type Item = &'a T;
-    fn places(self) -> impl Iterator<Item = &'a T> {
-        walk(self.grid).map(|p| unsafe { p.as_ref() })
+    type Places = Read<'a, T>;
+    fn places(self) -> Read<'a, T> {
+        Read(Walk { grid: self.grid, i: 0, j: 0 }, PhantomData)
     }
 }
 impl<'a, T> IntoPlaces for ColRef<'a, T> {
-    type Item = &'a T;
-    fn places(self) -> impl Iterator<Item = &'a T> {
+    type Places = Read<'a, T>;
+    fn places(self) -> Read<'a, T> {
         self.0.places()
     }
 }
 impl<'a, T> IntoPlaces for ColMut<'a, T> {
-    type Item = &'a mut T;
-    fn places(self) -> impl Iterator<Item = &'a mut T> {
-        walk(self.0.grid).map(|mut p| unsafe { p.as_mut() })
+    type Places = Write<'a, T>;
+    fn places(self) -> Write<'a, T> {
+        Write(Walk { grid: self.0.grid, i: 0, j: 0 }, PhantomData)
     }
 }
 

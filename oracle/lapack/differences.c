@@ -1,0 +1,383 @@
+// Prints the inputs and both outputs of docs/DIFFERENCES.md from the programs: our archive beside
+// Debian's liblapack, and beside C's own arithmetic where the stock build of faer cannot be run.
+// `run` builds it. Numbers are printed with the fewest digits that read back to the same bits.
+//   differences                      the whole list
+//   differences exchanges COUNT SEED random moves: how often both sides make as many exchanges
+//   differences declines COUNT SEED  random exchanges of a 2-block and a row: how often LAPACK declines
+#define _GNU_SOURCE
+#include "ours.h"
+#include <dlfcn.h>
+#include <math.h>
+#include <stdint.h>
+#include <stdio.h>
+#include <stdlib.h>
+#include <string.h>
+
+void dlartg_(const double *f, const double *g, double *c, double *s, double *r);
+void dlarfg_(const int *n, double *alpha, double *x, const int *incx, double *tau);
+void dlanv2_(double *a, double *b, double *c, double *d, double *rt1r, double *rt1i, double *rt2r, double *rt2i,
+             double *cs, double *sn);
+void dlasy2_(const int *ltranl, const int *ltranr, const int *isgn, const int *n1, const int *n2, const double *tl,
+             const int *ldtl, const double *tr, const int *ldtr, const double *b, const int *ldb, double *scale,
+             double *x, const int *ldx, double *xnorm, int *info);
+void dtrexc_(const char *compq, const int *n, double *t, const int *ldt, double *q, const int *ldq, int *ifst,
+             int *ilst, double *work, int *info, long);
+void dtrevc3_(const char *side, const char *howmny, int *select, const int *n, const double *t, const int *ldt,
+              double *vl, const int *ldvl, double *vr, const int *ldvr, const int *mm, int *m, double *work,
+              const int *lwork, int *info, long, long);
+
+enum { MOST = 32 };
+
+// ---- printing
+
+static const char *number(double x) {
+    static char texts[64][32];
+    static int next;
+    char *text = texts[next++ % 64];
+    if (isnan(x))
+        return "NaN";
+    for (int digits = 1; digits <= 17; digits++) {
+        snprintf(text, 32, "%.*g", digits, x);
+        if (strtod(text, 0) == x)
+            break;
+    }
+    return text;
+}
+
+// Each number after its name, from a list of names parted by blanks.
+static void named(const char *who, const char *names, const double *x) {
+    printf("  %-8s", who);
+    for (int i = 0; *names; i++) {
+        int len = strcspn(names, " ");
+        printf(" %.*s %s%s", len, names, number(x[i]), names[len] ? " " : "");
+        names += len + (names[len] != 0);
+    }
+    printf("\n");
+}
+
+// Rows in parentheses.
+static void rows(const char *who, int n, const double *t) {
+    printf("  %-8s", who);
+    for (int i = 0; i < n; i++) {
+        printf(" (");
+        for (int j = 0; j < n; j++)
+            printf("%s%s", j ? " " : "", number(t[i + n * j]));
+        printf(")");
+    }
+    printf("\n");
+}
+
+// One number of each side.
+static void one(const char *who, double x) { printf("  %-8s %s\n", who, number(x)); }
+
+// ---- the stock build of faer: C in its place
+
+static void stock(void) {
+    volatile double two = 2, three = 3, zero = 0, minus_zero = -0.0; // so that C's own are called
+    printf("hypot 2 3\n");
+    one("ours", vx_hypot(2, 3));
+    one("C", hypot(two, three));
+
+    printf("norm_l2 1 1 3\n");
+    one("ours", vx_norm_l2((double[]){1, 1, 3}, 3));
+    one("C", sqrt(fma(three, three, 2)));
+
+    printf("fmax 0 -0, fmin -0 0\n");
+    named("ours", "fmax fmin", (double[]){vx_fmax(0, -0.0), vx_fmin(-0.0, 0)});
+    named("C", "fmax fmin", (double[]){fmax(zero, minus_zero), fmin(minus_zero, zero)});
+
+    double c = 0.6, s = 0.8, x = 1, y = 3, out[2];
+    printf("rotation of columns, c 0.6 s 0.8 x 1 y 3\n");
+    ours_apply(c, s, x, y, out);
+    named("ours", "x y", out);
+    named("C's fma", "x y", (double[]){fma(s, y, c * x), fma(-s, x, c * y)});
+
+    printf("rotation of columns, c 1 s 0 x 1 y inf\n");
+    ours_apply(1, 0, 1, INFINITY, out);
+    named("ours", "x y", out);
+    named("returned", "x y", (double[]){1, INFINITY});
+
+    // The archive has no call of the inner product; the vectors of these forms show it.
+    double t[16] = {1, 0, 0, 0, 0.2, 1, 0, 0, 0.1, 0, 1, 0, 0, -0.3, -0.1, 0}, v[25] = {0};
+    ours_vectors(4, t, v);
+    printf("inner_prod of (0.2 0.1) and (0.3 0.1), negated: row 0 of the last vector\n");
+    rows("form", 4, t);
+    one("ours", v[12]);
+    one("C's fma", -fma(0.1, 0.1, 0.2 * 0.3));
+
+    double l[25] = {1, 0, 0, 0, 0, 1, 1, 0, 0, 0, 1, 0, 1, 0, 0, 1, 0, 0, 1, 0, 0, -0x1p-53, -1, 1, 0};
+    ours_vectors(5, l, v);
+    printf("inner_prod of (1 1 1) and (2^-53 1 -1), negated: row 0 of the last vector\n");
+    rows("form", 5, l);
+    one("ours", v[20]);
+    one("2 lanes", -((0x1p-53 - 1) + 1));
+}
+
+// ---- rotations and reflections
+
+static void rotation(double p, double q) {
+    double us[3], c, s, r;
+    ours_rotg(p, q, us);
+    dlartg_(&p, &q, &c, &s, &r);
+    printf("rotg %s %s\n", number(p), number(q));
+    named("ours", "c s r", us);
+    named("dlartg", "c s r", (double[]){c, s, r});
+}
+
+static void reflection(double head, int len, double a, double b) {
+    double tail[2] = {a, b}, theirs[2] = {a, b}, out[4], beta = head, tau;
+    int n = len + 1, step = 1;
+    ours_reflection(head, tail, len, out);
+    dlarfg_(&n, &beta, theirs, &step, &tau);
+    printf("reflection of head %s, tail %s%s%s\n", number(head), number(a), len > 1 ? " " : "", len > 1 ? number(b) : "");
+    const char *names = len > 1 ? "head tau v0 v1" : "head tau v0";
+    named("ours", names, (double[]){out[0], out[1], tail[0], tail[1]});
+    named("dlarfg", names, (double[]){beta, tau, theirs[0], theirs[1]});
+}
+
+// ---- blocks of two rows
+
+static void block(double a, double b, double c, double d) {
+    double x[4] = {a, b, c, d}, us[10], them[10] = {a, b, c, d};
+    ours_block(x, us);
+    dlanv2_(them, them + 1, them + 2, them + 3, them + 4, them + 5, them + 6, them + 7, them + 8, them + 9);
+    printf("block (%s %s) (%s %s)\n", number(a), number(b), number(c), number(d));
+    const char *names = "a b c d re im re im cs sn";
+    named("ours", names, us);
+    named("dlanv2", names, them);
+}
+
+static void sylvester(const double *tl, const double *tr, const double *b) {
+    int no = 0, minus = -1, two = 2, info = 0;
+    double us[5], them[5], xnorm;
+    ours_sylvester(tl, tr, b, us);
+    dlasy2_(&no, &no, &minus, &two, &two, tl, &two, tr, &two, b, &two, them + 4, them, &two, &xnorm, &info);
+    printf("lasy2\n");
+    rows("tl", 2, tl), rows("tr", 2, tr), rows("b", 2, b);
+    named("ours", "x00 x10 x01 x11 scale", us);
+    named("dlasy2", "x00 x10 x01 x11 scale", them);
+}
+
+// ---- moves
+
+static char calls[4096];
+static int made, refused;
+
+// Stands before LAPACK's own when the program is linked, and writes the call down: row from 0, sizes.
+void dlaexc_(const int *wantq, const int *n, double *t, const int *ldt, double *q, const int *ldq, const int *j1,
+             const int *n1, const int *n2, double *work, int *info) {
+    static void (*theirs)(const int *, const int *, double *, const int *, double *, const int *, const int *,
+                          const int *, const int *, double *, int *);
+    if (!theirs)
+        *(void **)&theirs = dlsym(RTLD_NEXT, "dlaexc_");
+    theirs(wantq, n, t, ldt, q, ldq, j1, n1, n2, work, info);
+    size_t at = strlen(calls);
+    snprintf(calls + at, sizeof calls - at, " %d:%d:%d%s", *j1 - 1, *n1, *n2, *info ? " declined" : "");
+    made++;
+    refused += *info != 0;
+}
+
+static int lapack_move(int n, double *t, int from, int to, int *info) {
+    int ifst = from + 1, ilst = to + 1, step = 1;
+    double none[1], work[MOST];
+    calls[0] = 0, made = 0, refused = 0;
+    dtrexc_("N", &n, t, &n, none, &step, &ifst, &ilst, work, info, 1);
+    return ilst - 1;
+}
+
+static void move(int n, const double *by_rows, int from, int to) {
+    double t[MOST * MOST], us[MOST * MOST], them[MOST * MOST];
+    for (int i = 0; i < n; i++)
+        for (int j = 0; j < n; j++)
+            t[i + n * j] = by_rows[n * i + j];
+    memcpy(us, t, sizeof t), memcpy(them, t, sizeof t);
+    size_t out[3];
+    int info;
+    size_t answer = ours_move(n, us, 0, from, to, out);
+    int landed = lapack_move(n, them, from, to, &info);
+    printf("move from %d to %d\n", from, to);
+    rows("form", n, t);
+    printf("  ours     answer %zu  landed %zu  swaps %zu  declined %zu\n", answer, out[0], out[1], out[2]);
+    rows("", n, us);
+    printf("  dtrexc   info %d  landed %d  exchanges%s\n", info, landed, calls);
+    rows("", n, them);
+}
+
+// ---- random forms
+
+static uint64_t state;
+
+static uint64_t next(void) { // xorshift64*
+    state ^= state >> 12;
+    state ^= state << 25;
+    state ^= state >> 27;
+    return state * 2685821657736338717u;
+}
+
+static double whole(void) { return (double)(next() % 5) - 2; }
+
+// Whole numbers to 2; a 2-block has a double value, or its lower entry is off by some last bits.
+static void draw(int n, double *t) {
+    memset(t, 0, n * n * sizeof *t);
+    for (int j = 0; j < n; j++)
+        for (int i = 0; i <= j; i++)
+            t[i + n * j] = whole();
+    for (int i = 0; i + 1 < n; i++)
+        if (next() % 2) {
+            double *upper = t + i + n * (i + 1), *lower = t + i + 1 + n * i;
+            double half = (t[i + n * i] - t[i + 1 + n * (i + 1)]) / 2;
+            if (half == 0 || *upper == 0)
+                continue;
+            *lower = -half * half / *upper * (1 + ((double)(next() % 9) - 4) * 0x1p-52);
+            i++;
+        }
+}
+
+static void exchanges(long count) {
+    long moved = 0, declined = 0, rows_differ = 0, more = 0, fewer = 0, least = 8;
+    for (long k = 0; k < count; k++) {
+        double t[49], us[49], them[49];
+        size_t out[3];
+        int n = 3 + next() % 5, from = next() % n, to = next() % n, info;
+        draw(n, t);
+        memcpy(us, t, sizeof t), memcpy(them, t, sizeof t);
+        ours_move(n, us, 0, from, to, out);
+        int landed = lapack_move(n, them, from, to, &info);
+        if (out[2] || refused) {
+            declined++;
+            continue;
+        }
+        moved++;
+        rows_differ += (size_t)landed != out[0];
+        more += (size_t)made > out[1];
+        fewer += (size_t)made < out[1];
+        if ((size_t)made != out[1] && n < least)
+            least = n;
+    }
+    printf("%ld random moves of 3 to 7 rows, %ld of them without a decline\n", count, moved);
+    printf("  another row landed on: %ld\n", rows_differ);
+    printf("  more exchanges by dtrexc: %ld, fewer: %ld, at least %ld rows\n", more, fewer, least);
+}
+
+static double sized(int most) {
+    double x = (double)(int64_t)next() * 0x1p-63;
+    return ldexp(x, (int)(next() % (2 * most + 1)) - most);
+}
+
+static void declines(long count) {
+    for (int wide = 0; wide < 2; wide++) {
+        int most = wide ? 1000 : 50;
+        long declined = 0;
+        for (long k = 0; k < count; k++) {
+            int n = 3, upper = next() % 2, info, i = upper ? 0 : 1;
+            double t[9] = {0};
+            for (int j = 0; j < 3; j++)
+                for (int row = 0; row <= j; row++)
+                    t[row + 3 * j] = sized(most);
+            t[i + 1 + 3 * i] = copysign(sized(most), -t[i + 3 * (i + 1)]);
+            lapack_move(n, t, 0, 2, &info);
+            declined += refused;
+        }
+        printf("%ld exchanges of a 2-block and a row, exponents to %d: %ld declined by dlaexc\n", count, most, declined);
+    }
+}
+
+// ---- vectors
+
+// All of a small form's vectors, column by column; of a larger one, the ends of the last.
+static void columns(const char *who, int n, const double *v) {
+    printf("  %-8s", who);
+    for (int j = n > 4 ? n - 1 : 0; j < n; j++) {
+        printf(" (");
+        for (int i = 0; i < n; i += n > 4 ? n - 1 : 1)
+            printf("%s%s", i ? n > 4 ? " .. " : " " : "", number(v[i + n * j]));
+        printf(")");
+    }
+    printf("\n");
+}
+
+static void vectors(int n, const double *by_rows) {
+    double t[MOST * MOST], us[MOST * MOST], them[MOST * MOST], none[1], work[4096];
+    int select[MOST] = {0}, step = 1, m, info, lwork = 4096;
+    for (int i = 0; i < n; i++)
+        for (int j = 0; j < n; j++)
+            t[i + n * j] = by_rows[n * i + j];
+    for (int k = 0; k < n * n; k++)
+        us[k] = them[k] = 7;
+    ours_vectors(n, t, us);
+    dtrevc3_("R", "A", select, &n, t, &n, none, &step, them, &n, &n, &m, work, &lwork, &info, 1, 1);
+    if (n > 4)
+        printf("vectors of %d rows, 1 just above a zero diagonal: the last column's ends\n", n);
+    else {
+        printf("vectors, column after column\n");
+        rows("form", n, t);
+    }
+    columns("ours", n, us);
+    columns("dtrevc3", n, them);
+}
+
+#define FORM(...) ((double[]){__VA_ARGS__})
+
+int main(int argc, char **argv) {
+    if (argc == 4) {
+        state = strtoull(argv[3], 0, 10) * 0x9e3779b97f4a7c15u + 1;
+        (strcmp(argv[1], "declines") ? exchanges : declines)(strtol(argv[2], 0, 10));
+        return 0;
+    }
+    if (argc != 1) {
+        fprintf(stderr, "differences: see the head of differences.c\n");
+        return 2;
+    }
+    stock();
+
+    rotation(0, 1);
+    rotation(1, -1);
+    rotation(2, 3);
+    rotation(0x1p-1074, 0x1p-1074);
+    rotation(1.7e308, 1.7e308);
+
+    reflection(3, 1, 4, 0);
+    reflection(1, 1, 0, 0);
+    reflection(49, 1, 1, 0);
+    reflection(0, 2, 2, 3);
+    reflection(-0.0, 1, 1, 0);
+    reflection(1, 1, 0x1p-1023, 0);
+    reflection(0x1p-1023, 1, 0x1p-1022, 0);
+    reflection(1.7e308, 1, 1.7e308, 0);
+    reflection(INFINITY, 1, 1, 0);
+
+    block(-2, -1, 1, 0);
+    block(1, 1, 1, 0);
+    block(0, 0x1p512, 0x1p512, 0);
+    block(-0.0, 1, 1, 0);
+    block(INFINITY, 1, -1, INFINITY);
+    block(0, NAN, 1, 0);
+
+    double zeros[4] = {0}, ones[4] = {1, 1, 1, 1}, none[4] = {NAN, NAN, NAN, NAN};
+    sylvester(zeros, zeros, FORM(INFINITY, 0, 0, 0));
+    sylvester(FORM(NAN, 0, 0, 0), zeros, ones);
+    sylvester(none, none, ones);
+
+    move(5, FORM(0, 0x1p18, -1, 3, -1, -0x1p-8, 0, 3, 3, 1, 0, 0, 1, 0x1p27, 3, 0, 0, -0x1p-20, 1, 0, 0, 0, 0, 0, -1), 0, 4);
+    move(4, FORM(0, 0x1p28, 1, 1, -0x1p-6, 1, -1, 0, 0, 0, 0, 0x1p19, 0, 0, -8, 0), 0, 3);
+    move(3, FORM(0x1p1023, 0, 0x1p1023, 0, -0x1p1023, 1, 0, -1, -0x1p1023), 0, 2);
+    move(3, FORM(1, 0x1p1023, 0, -1, 1, 0x1p1023, 0, 0, 0), 0, 2);
+    move(3, FORM(0, 0, 0, 0, 2, -1, 0, 1, 0), 1, 0);
+    move(4, FORM(0, 0, 0, 0, 0, 0, 0, 0, 0, 0, 2, -1, 0, 0, 1, 0), 2, 0);
+    move(4, FORM(0, 0, 0, 0, 0, 0, 0, 0, 0, 0, 1, -1, 0, 0, 1, -1), 2, 0);
+    state = 0x9e3779b97f4a7c15u + 1;
+    exchanges(100000);
+
+    vectors(2, FORM(1, 8, 0, 2));
+    vectors(2, FORM(1, 1, 0, 1));
+    vectors(2, zeros);
+    vectors(2, FORM(1.7e308, 1.7e308, 0, 1));
+    double jordan[23 * 23] = {0};
+    for (int i = 0; i + 1 < 23; i++)
+        jordan[23 * i + i + 1] = 1;
+    vectors(23, jordan);
+    vectors(3, FORM(1, 2, 1, -3, 4, 1, 0, 0, 5));
+    vectors(3, FORM(1, 1, 1, 1, 1, 2, 0, 0, 0));
+    vectors(3, FORM(1, 1, 0, 0, 0, 1, 0, -1, 0));
+    return 0;
+}

@@ -1,0 +1,39 @@
+// Our calls as the programs here use them, results in one array each. The only place that knows how
+// the archive's calls are written.
+#ifndef OURS_H
+#define OURS_H
+#include "../../bindings/c/volmeixi.h"
+
+// c s r
+static inline void ours_rotg(double p, double q, double *out) { vx_rotg(p, q, out, out + 1, out + 2); }
+
+// new x, new y
+static inline void ours_apply(double c, double s, double x, double y, double *out) {
+    vx_apply(c, s, x, y, out, out + 1);
+}
+
+// head, tau, head_with_beta_inv, norm; the tail in place
+static inline void ours_reflection(double head, double *tail, size_t len, double *out) {
+    vx_make_householder_in_place(head, tail, len, out, out + 1, out + 2, out + 3);
+}
+
+// a b c d, both values, cs sn
+static inline void ours_block(const double *x, double *out) {
+    vx_lahqr_schur22(x[0], x[1], x[2], x[3], out, out + 1, out + 2, out + 3, out + 4, out + 5, out + 6, out + 7,
+                     out + 8, out + 9);
+}
+
+// x00 x10 x01 x11, scale
+static inline void ours_sylvester(const double *tl, const double *tr, const double *b, double *out) {
+    vx_lasy2(tl, tr, b, out, out + 4);
+}
+
+// the row landed on, swaps, declined
+static inline size_t ours_move(size_t n, double *t, double *u, size_t from, size_t to, size_t *out) {
+    return vx_reorder_schur(n, t, n * n, u, u ? n * n : 0, from, to, out, out + 1, out + 2);
+}
+
+static inline size_t ours_vectors(size_t n, const double *t, double *v) {
+    return vx_evd_from_real_schur(n, t, n * n, v, n * n);
+}
+#endif
