@@ -1,7 +1,7 @@
 // A column of the vectors, as a part of them.
 ghost use mathlib.Core.Path.{_≡_};
 ghost use Rattle.model.specs.Vectors.{columnOf};
-use solve::block::top;
+use form::place;
 
 // Column `col` of the n by n vectors v, n numbers, or a part of length 0 where a line applies.
 pub fn column(n: usize, v: &[f64], col: usize) -> &[f64]
@@ -19,6 +19,6 @@ pub fn column(n: usize, v: &[f64], col: usize) -> &[f64]
     if n <= col {
         return &v[0..0];
     }
-    let at = top(n, n, col);
+    let at = place(n, n, 0, col);
     &v[at..at + n]
 }

@@ -16,7 +16,6 @@ use form::form_line;
 use form::place;
 use solve::block::imag_size;
 use solve::block::last_size;
-use solve::block::top;
 use solve::block::with_further;
 use solve::solve_cplx::solve_cplx_shifted_upper_quasi_triangular_system;
 use solve::solve_real::solve_real_shifted_upper_quasi_triangular_system;
@@ -51,7 +50,7 @@ fn form_norm(ld: usize, n: usize, t: &[f64]) -> f64
     let mut norm = 0.0;
     let mut j = 0;
     while j < n {
-        norm = add_magnitudes(t, top(ld, n, j), rows_to(n, j), norm);
+        norm = add_magnitudes(t, place(ld, n, 0, j), rows_to(n, j), norm);
         j += 1;
     }
     norm
@@ -83,7 +82,7 @@ fn real_column(ld: usize, n: usize, t: &[f64], norm: f64, k: usize, v: &mut [f64
     ensures { λ _. ⌜ now (v .exit) ≡ Vectors.realColumn binary64 ld (now (t .entry)) norm k (now (v .entry)) ⌝ }
 {
     let d = place(ld, n, k, k);
-    let s = top(ld, n, k);
+    let s = place(ld, n, 0, k);
     let p = t[d];
     v[d] = 1.0;
     negate_run(t, s, k, &mut *v);
@@ -155,7 +154,7 @@ fn open_columns(ld: usize, n: usize, t: &[f64], j: usize, v: &mut [f64]) -> f64
     let q = imag_size(c, b);
     let s = start_of(b, c, q);
     start_block(ld, n, j, s, &mut *v);
-    scale_runs(ld, t, s, top(ld, n, j), j, v);
+    scale_runs(ld, t, s, place(ld, n, 0, j), j, v);
     q
 }
 
@@ -166,7 +165,7 @@ fn cplx_columns(ld: usize, n: usize, t: &[f64], norm: f64, j: usize, v: &mut [f6
 {
     let q = open_columns(ld, n, t, j, &mut *v);
     let p = t[place(ld, n, j + 1, j + 1)];
-    solve_columns(ld, j, t, p, q, norm, top(ld, n, j), v);
+    solve_columns(ld, j, t, p, q, norm, place(ld, n, 0, j), v);
 }
 
 // The columns of the last block of the first `rows` rows, and how many rows are then left.

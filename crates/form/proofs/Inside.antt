@@ -3,8 +3,8 @@ use Prim.Native.Nat.{ℕ, suc, _+_, _*_, _≤_, _<_}
 use native.Mathlib.Nat.{mul-le-mul, mul-le-mul-left}
 use native.Mathlib.Omega.{arith}
 
-pub inside : (ld n i j : ℕ) → i < ld → j < n → i + ld * j < ld * n
-inside ld n i j h k = let m : ld * suc j ≤ ld * n = mul-le-mul-left ld k in omega arith
+pub inside : (ld n i j : ℕ) → j < n → i + ld * j + ld ≤ i + ld * n
+inside ld n i j k = let m : ld * suc j ≤ ld * n = mul-le-mul-left ld k in omega arith
 
 pub small : (ld n : ℕ) → ld ≤ 128 → n ≤ 65 → ld * n ≤ 8320
 small ld n h k = mul-le-mul h k

@@ -12,10 +12,10 @@ pub mod blocks;
 pub mod lines;
 pub mod places;
 
-// Where row i, column j stands in a form of n columns, ld places apart.
+// Where row i, column j stands in a form, or a square in it, of n columns, ld places apart.
 pub fn place(ld: usize, n: usize, i: usize, j: usize) -> usize
-    requires { ⌜ (ld ≤ 128) × (n ≤ 65) × (i < ld) × (j < n) ⌝ }
-    ensures { λ r. ⌜ (r ≡ i + ld * j) × (r < ld * n) ⌝ }
+    requires { ⌜ (ld ≤ 128) × (n ≤ 65) × (i ≤ 128) × (j < n) ⌝ }
+    ensures { λ r. ⌜ (r ≡ i + ld * j) × (r + ld ≤ i + ld * n) ⌝ }
 {
     i + ld * j
 }

@@ -7,16 +7,10 @@ use native.Mathlib.Omega.{arith}
 pub along : (p step k n len : ℕ) → k < n → p + step * n < len + step → p + step * k < len
 along p step k n len h l = let m : step * suc k ≤ step * n = mul-le-mul-left step h in omega arith
 
-pub spot : (ld n i j : ℕ) → i < n → j < n → i + ld * j + ld < n + ld * n
-spot ld n i j h k = let m : ld * suc j ≤ ld * n = mul-le-mul-left ld k in omega arith
-
 pub row : (ld n i j : ℕ) → i < n → j ≤ n → i + ld * j + ld * (n - j) < n + ld * n
 row ld n i j h k =
     let m : ld * (j + (n - j)) ≡ ld * n = ap (λ (e : ℕ). ld * e) (omega arith) in
     omega (arith, sym (mul-add ld j (n - j)) ∙ m)
-
-pub top : (ld n j : ℕ) → j < n → ld * j + ld ≤ ld * n
-top ld n j h = let m : ld * suc j ≤ ld * n = mul-le-mul-left ld h in omega arith
 
 -- a square's size fits
 pub small : (ld n : ℕ) → ld ≤ 128 → n ≤ 64 → ld * n ≤ 8192

@@ -9,6 +9,7 @@ ghost use Rattle.model.specs.Move as Move;
 ghost use Rattle.model.specs.Values as Values;
 ghost use Rattle.solve.specs.Sizes.{Square};
 use arith::real::abs;
+use form::place;
 use root::sqrt::sqrt;
 
 // The first line that applies, of the line of a form alone and of a further buffer's length.
@@ -24,28 +25,12 @@ pub fn with_further(line: usize, wrong: bool) -> usize
     if wrong { 4 } else { line }
 }
 
-// Where row i, column j stands in a square of n rows, its columns ld apart.
-pub fn spot(ld: usize, n: usize, i: usize, j: usize) -> usize
-    requires { ⌜ (ld ≤ 128) × (n ≤ 64) × (i < n) × (j < n) ⌝ }
-    ensures { λ r. ⌜ (r ≡ i + ld * j) × (r + ld < n + ld * n) ⌝ }
-{
-    i + ld * j
-}
-
-// Where row i starts in column j, of which the rest of the row goes on.
-pub fn row(ld: usize, n: usize, i: usize, j: usize) -> usize
+// Where the rest of row i starts, from column j on: nothing is left of it where j is n.
+pub fn row_start(ld: usize, n: usize, i: usize, j: usize) -> usize
     requires { ⌜ (ld ≤ 128) × (n ≤ 64) × (i < n) × (j ≤ n) ⌝ }
     ensures { λ r. ⌜ (r ≡ i + ld * j) × (r + ld * (n - j) < n + ld * n) ⌝ }
 {
     i + ld * j
-}
-
-// Where column j starts in a form of n columns, ld places apart.
-pub fn top(ld: usize, n: usize, j: usize) -> usize
-    requires { ⌜ (ld ≤ 128) × (n ≤ 64) × (j < n) ⌝ }
-    ensures { λ r. ⌜ (r ≡ ld * j) × (r + ld ≤ ld * n) ⌝ }
-{
-    ld * j
 }
 
 // The numbers of a 2-block that a solver reads: the lower diagonal number, b above and c below.
@@ -60,9 +45,9 @@ pub fn block_of(ld: usize, n: usize, a: &[f64], i: usize) -> Block
     requires { ⌜ Square (now a) ld n × (i + 1 < n) ⌝ }
     ensures { λ r. ⌜ (r .d ≡ entry ld (now (a .entry)) (i + 1) (i + 1)) × (r .b ≡ entry ld (now (a .entry)) i (i + 1)) × (r .c ≡ entry ld (now (a .entry)) (i + 1) i) ⌝ }
 {
-    let d = a[spot(ld, n, i + 1, i + 1)];
-    let b = a[spot(ld, n, i, i + 1)];
-    let c = a[spot(ld, n, i + 1, i)];
+    let d = a[place(ld, n, i + 1, i + 1)];
+    let b = a[place(ld, n, i, i + 1)];
+    let c = a[place(ld, n, i + 1, i)];
     Block { d, b, c }
 }
 
@@ -75,7 +60,7 @@ pub fn last_size(ld: usize, n: usize, a: &[f64], rows: usize) -> usize
         return 1;
     }
     let j = rows - 2;
-    if a[spot(ld, n, j + 1, j)] != 0.0 {
+    if a[place(ld, n, j + 1, j)] != 0.0 {
         return 2;
     }
     1

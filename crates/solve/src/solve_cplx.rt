@@ -9,14 +9,14 @@ ghost use Rattle.solve.specs.Sizes.{Square};
 ghost use Rattle.solve.specs.View.{complex, rows};
 use crate::block::block_of;
 use crate::block::last_size;
-use crate::block::row;
-use crate::block::spot;
+use crate::block::row_start;
 use crate::dots::dot2x1;
 use crate::dots::dot2x2;
 use arith::norm::hypot;
 use arith::real::EPS;
 use arith::real::abs2;
 use arith::real::mul_pow2;
+use form::place;
 
 // A complex number.
 struct Complex {
@@ -108,14 +108,14 @@ fn one_row(ld: usize, n: usize, a: &[f64], p: f64, q: f64, norm: f64, i: usize, 
     requires { ⌜ Square (now a) ld n × (i < n) × (ld + n ≤ length (now x)) ⌝ }
     ensures { λ _. ⌜ now (x .exit) ≡ Vectors.cplxOne binary64 ld (now (a .entry)) p q norm n i (now (x .entry)) ⌝ }
 {
-    let start = row(ld, n, i, i + 1);
+    let start = row_start(ld, n, i, i + 1);
     let dot = dot2x1(&*x, i + 1, ld + (i + 1), 1, a, start, ld, n - (i + 1));
     let r = Complex {
         re: x[i] - dot.d0,
         im: x[ld + i] - dot.d1,
     };
     let z = Complex {
-        re: a[spot(ld, n, i, i)] - p,
+        re: a[place(ld, n, i, i)] - p,
         im: -q,
     };
     put(ld, i, times(r, inverse(z, norm)), x);
@@ -126,8 +126,8 @@ fn rest_of(ld: usize, n: usize, a: &[f64], i: usize, x: &[f64]) -> Rows
     requires { ⌜ Square (now a) ld n × (i + 1 < n) × (ld + n ≤ length (now x)) ⌝ }
     ensures { λ r. ⌜ (complex (r .upper) ≡ Vectors.cplxRest binary64 ld (now (a .entry)) n (now (x .entry)) i (i + 2)) × (complex (r .lower) ≡ Vectors.cplxRest binary64 ld (now (a .entry)) n (now (x .entry)) (i + 1) (i + 2)) ⌝ }
 {
-    let row0 = row(ld, n, i, i + 2);
-    let row1 = row(ld, n, i + 1, i + 2);
+    let row0 = row_start(ld, n, i, i + 2);
+    let row1 = row_start(ld, n, i + 1, i + 2);
     let dot = dot2x2(a, row0, row1, ld, x, i + 2, ld + (i + 2), 1, n - (i + 2));
     let upper = Complex {
         re: x[i] - dot.d00,

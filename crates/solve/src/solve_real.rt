@@ -7,14 +7,14 @@ ghost use Rattle.model.specs.Vectors as Vectors;
 ghost use Rattle.solve.specs.Sizes.{Square};
 use crate::block::block_of;
 use crate::block::last_size;
-use crate::block::row;
-use crate::block::spot;
+use crate::block::row_start;
 use crate::dots::dot2x1;
 use crate::dots::inner_prod;
 use arith::real::EPS;
 use arith::real::abs;
 use arith::real::abs2;
 use arith::real::recip;
+use form::place;
 
 // The divisor, or eps * norm where it is below that in magnitude.
 fn divisor(z: f64, norm: f64) -> f64
@@ -35,8 +35,16 @@ fn one_row(ld: usize, n: usize, a: &[f64], p: f64, norm: f64, i: usize, x: &mut 
     requires { ⌜ Square (now a) ld n × (i < n) × (n ≤ length (now x)) ⌝ }
     ensures { λ _. ⌜ now (x .exit) ≡ Vectors.realOne binary64 ld (now (a .entry)) p norm n i (now (x .entry)) ⌝ }
 {
-    let dot = inner_prod(a, row(ld, n, i, i + 1), ld, &*x, i + 1, 1, n - (i + 1));
-    let z = divisor(a[spot(ld, n, i, i)] - p, norm);
+    let dot = inner_prod(
+        a,
+        row_start(ld, n, i, i + 1),
+        ld,
+        &*x,
+        i + 1,
+        1,
+        n - (i + 1),
+    );
+    let z = divisor(a[place(ld, n, i, i)] - p, norm);
     let r = x[i] - dot;
     x[i] = divided(r, z);
 }
@@ -46,8 +54,8 @@ fn two_rows(ld: usize, n: usize, a: &[f64], p: f64, i: usize, x: &mut [f64])
     requires { ⌜ Square (now a) ld n × (i + 1 < n) × (n ≤ length (now x)) ⌝ }
     ensures { λ _. ⌜ now (x .exit) ≡ Vectors.realTwo binary64 ld (now (a .entry)) p n i (now (x .entry)) ⌝ }
 {
-    let row0 = row(ld, n, i, i + 2);
-    let row1 = row(ld, n, i + 1, i + 2);
+    let row0 = row_start(ld, n, i, i + 2);
+    let row1 = row_start(ld, n, i + 1, i + 2);
     let dot = dot2x1(a, row0, row1, ld, &*x, i + 2, 1, n - (i + 2));
     let r0 = x[i] - dot.d0;
     let r1 = x[i + 1] - dot.d1;

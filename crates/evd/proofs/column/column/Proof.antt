@@ -1,10 +1,11 @@
 -- `evd::column::column` meets its contract. Assumes nothing.
 use Prim.Native.Nat.{_≤_}
-use native.Mathlib.Nat.{mul-le-mul, add-sub-cancel-left}
+use native.Mathlib.Nat.{mul-le-mul, add-sub-cancel-left, zero-add}
 use native.Mathlib.Omega.{arith}
 use borrow.Author.Tests.{eq-eqb, ne-eqb, lt-ltb, le-ltb}
 use Rattle.model.specs.Form.{line2, line7}
 use Rattle.model.specs.Vectors.{columnLine, columnOf}
+use mathlib.Core.Path.{_∙_}
 use borrow.Author.Needs.{needs}
 use Rattle.evd.proofs.column.column.Statement.{statement}
 use Rattle.evd.proofs.column.column.Tie as tie
@@ -76,8 +77,8 @@ returns-4 c =
     let z = m .before in
     rw (ne-eqb _ _ (z .if1 .left), le-ltb _ _ (m .if2 .left), eq-eqb _ _ (w .if3 .left), le-ltb _ _ (i .if4 .taken))
 
-top-requires : tie.Need-top-requires
-top-requires c κs = search needs
+place-requires : tie.Need-place-requires
+place-requires c κs = search needs
 
 add-result : tie.Need-add-result
 add-result c = search needs
@@ -102,7 +103,7 @@ returns-5 c =
     let w = i .before in
     let m = w .before in
     let z = m .before in
-    rw (s .top .ensures .0, add-sub-cancel-left, ne-eqb _ _ (z .if1 .left), le-ltb _ _ (m .if2 .left), eq-eqb _ _ (w .if3 .left), lt-ltb _ _ (i .if4 .left))
+    rw (s .place .ensures .0 ∙ zero-add _, add-sub-cancel-left, ne-eqb _ _ (z .if1 .left), le-ltb _ _ (m .if2 .left), eq-eqb _ _ (w .if3 .left), lt-ltb _ _ (i .if4 .left))
 
 pub column-spec : {M : Type 1} → statement M
 column-spec =
@@ -125,7 +126,7 @@ column-spec =
     part-result-start-4
     part-result-end-4
     returns-4
-    top-requires
+    place-requires
     add-result
     mul-result
     sub-result-5

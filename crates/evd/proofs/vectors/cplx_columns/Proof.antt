@@ -1,5 +1,7 @@
 -- `evd::vectors::cplx_columns` meets its contract. Assumes nothing.
 use Rattle.model.specs.Vectors.{cplxColumns}
+use mathlib.Core.Path.{_∙_}
+use native.Mathlib.Nat.{zero-add}
 use borrow.Author.Needs.{needs}
 use Rattle.evd.proofs.vectors.cplx_columns.Statement.{statement}
 use Rattle.evd.proofs.vectors.cplx_columns.Tie as tie
@@ -22,8 +24,8 @@ mul-p c = search needs
 shared-slice-read-p : tie.Need-shared-slice-read-p
 shared-slice-read-p c = search needs
 
-top-requires : tie.Need-top-requires
-top-requires c κs = search needs
+place-requires-2 : tie.Need-place-requires-2
+place-requires-2 c κs = search needs
 
 solve-columns-requires : tie.Need-solve-columns-requires
 solve-columns-requires c κs = search needs
@@ -38,7 +40,7 @@ returns c =
     let s = w .before .before in
     let p = s .before .before in
     let o = p .before .before .before in
-    rw (w .solve-columns .ensures, s .top .ensures .0, p .place .ensures .0, o .open-columns .ensures .0, o .open-columns .ensures .1)
+    rw (w .solve-columns .ensures, s .place2 .ensures .0 ∙ zero-add _, p .place .ensures .0, o .open-columns .ensures .0, o .open-columns .ensures .1)
 
 pub cplx-columns-spec : {M : Type 1} → statement M
 cplx-columns-spec =
@@ -50,7 +52,7 @@ cplx-columns-spec =
     place-requires
     mul-p
     shared-slice-read-p
-    top-requires
+    place-requires-2
     solve-columns-requires
     same-length
     returns)

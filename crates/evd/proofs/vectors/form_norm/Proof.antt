@@ -1,7 +1,7 @@
 -- `evd::vectors::form_norm` meets its contract. The invariant: the rest of the work, done to what there is now, gives the whole. Assumes nothing.
-use mathlib.Core.Path.{_≡_}
+use mathlib.Core.Path.{_≡_, _∙_}
 use Prim.Native.Nat.{_-_, _≤_}
-use native.Mathlib.Nat.{sub-zero}
+use native.Mathlib.Nat.{sub-zero, zero-add}
 use lib.Ieee.{binary64}
 use Rattle.model.specs.Vectors.{normColumns, formNorm}
 use Rattle.solve.proofs.Left.{left-suc, left-none}
@@ -19,8 +19,8 @@ loop-holds : tie.Need-loop-holds Inv-loop μ-loop
 unfolding formNorm
 loop-holds c = (search needs, rw sub-zero)
 
-top-requires : tie.Need-top-requires Inv-loop μ-loop
-top-requires c κs = search needs
+place-requires : tie.Need-place-requires Inv-loop μ-loop
+place-requires c κs = search needs
 
 rows-to-requires : tie.Need-rows-to-requires Inv-loop μ-loop
 rows-to-requires c κs = search needs
@@ -41,7 +41,7 @@ loop-again c =
     let s = r .before in
     let t = s .before in
     let l = t .before in
-    (search needs, rw (c .add-magnitudes .ensures, r .rows-to .ensures .0, s .top .ensures .0) (rw (left-suc _ _ (t .loop-test .taken)) at (l .loop .inv .1)))
+    (search needs, rw (c .add-magnitudes .ensures, r .rows-to .ensures .0, s .place .ensures .0 ∙ zero-add _) (rw (left-suc _ _ (t .loop-test .taken)) at (l .loop .inv .1)))
 
 returns : tie.Need-returns Inv-loop μ-loop
 unfolding normColumns
@@ -54,7 +54,7 @@ form-norm-spec =
     Inv-loop
     μ-loop
     loop-holds
-    top-requires
+    place-requires
     rows-to-requires
     add-magnitudes-requires
     add-j

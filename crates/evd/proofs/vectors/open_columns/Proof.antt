@@ -1,5 +1,7 @@
 -- `evd::vectors::open_columns` meets its contract. Assumes nothing.
 use Rattle.model.specs.Vectors.{openColumns}
+use mathlib.Core.Path.{_∙_}
+use native.Mathlib.Nat.{zero-add}
 use borrow.Author.Needs.{needs}
 use Rattle.evd.proofs.vectors.open_columns.Statement.{statement}
 use Rattle.evd.proofs.vectors.open_columns.Tie as tie
@@ -37,8 +39,8 @@ start-of-requires c κs = search needs
 start-block-requires : tie.Need-start-block-requires
 start-block-requires c κs = search needs
 
-top-requires : tie.Need-top-requires
-top-requires c κs = search needs
+place-requires-3 : tie.Need-place-requires-3
+place-requires-3 c κs = search needs
 
 scale-runs-requires : tie.Need-scale-runs-requires
 scale-runs-requires c κs = search needs
@@ -57,7 +59,7 @@ returns c =
     let p2 = q .before .before in
     let p1 = p2 .before .before in (
       rw (q .imag-size .ensures, p2 .place2 .ensures .0, p1 .place .ensures .0),
-      rw (w .scale-runs .ensures, b .start-block .ensures, s .top .ensures .0, o .start-of .ensures, q .imag-size .ensures, p2 .place2 .ensures .0, p1 .place .ensures .0),
+      rw (w .scale-runs .ensures, b .start-block .ensures, s .place3 .ensures .0 ∙ zero-add _, o .start-of .ensures, q .imag-size .ensures, p2 .place2 .ensures .0, p1 .place .ensures .0),
     )
 
 pub open-columns-spec : {M : Type 1} → statement M
@@ -75,7 +77,7 @@ open-columns-spec =
     imag-size-requires
     start-of-requires
     start-block-requires
-    top-requires
+    place-requires-3
     scale-runs-requires
     same-length
     returns)

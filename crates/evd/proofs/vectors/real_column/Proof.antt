@@ -3,6 +3,7 @@ use mathlib.Core.Path.{_∙_}
 use native.Mathlib.Omega.{arith}
 use lib.ListN.{length-set}
 use Rattle.model.specs.Vectors.{realColumn}
+use native.Mathlib.Nat.{zero-add}
 use borrow.Author.Needs.{needs}
 use Rattle.evd.proofs.vectors.real_column.Statement.{statement}
 use Rattle.evd.proofs.vectors.real_column.Tie as tie
@@ -10,8 +11,8 @@ use Rattle.evd.proofs.vectors.real_column.Tie as tie
 place-requires : tie.Need-place-requires
 place-requires c κs = search needs
 
-top-requires : tie.Need-top-requires
-top-requires c κs = search needs
+place-requires-2 : tie.Need-place-requires-2
+place-requires-2 c κs = search needs
 
 mul-p : tie.Need-mul-p
 mul-p c = search needs
@@ -35,7 +36,7 @@ solve-column-requires c κs =
     let a = s .before .before .before .before in
     let e = simp length-set at (g .negate-run .kept .1 .1 .1 .0) in
     let w = a .pre .0 in
-    ((w .0, omega (arith, w .1, a .pre .2), omega (arith, w .2, w .3, a .pre .2, s .top .ensures)), omega (arith, e, a .pre .1, a .pre .2, w .2, s .top .ensures))
+    ((w .0, omega (arith, w .1, a .pre .2), omega (arith, w .2, w .3, a .pre .2, s .place2 .ensures)), omega (arith, e, a .pre .1, a .pre .2, w .2, s .place2 .ensures))
 
 same-length : tie.Need-same-length
 same-length c =
@@ -50,14 +51,14 @@ returns c =
     let g = w .before .before .before .before in
     let s = g .before .before .before in
     let d = s .before in
-    rw (w .solve-column .ensures, g .negate-run .ensures, s .top .ensures .0, d .place .ensures .0)
+    rw (w .solve-column .ensures, g .negate-run .ensures, s .place2 .ensures .0 ∙ zero-add _, d .place .ensures .0)
 
 pub real-column-spec : {M : Type 1} → statement M
 real-column-spec =
     tie.close
     (tie.spec
     place-requires
-    top-requires
+    place-requires-2
     mul-p
     shared-slice-read-p
     mul-v

@@ -1,5 +1,7 @@
 -- `evd::vectors::start_block` meets its contract. Assumes nothing.
 use Rattle.model.specs.Vectors.{startBlock}
+use native.Mathlib.Omega.{arith}
+use lib.ListN.{length-set}
 use borrow.Author.Needs.{needs}
 use Rattle.evd.proofs.vectors.start_block.Statement.{statement}
 use Rattle.evd.proofs.vectors.start_block.Tie as tie
@@ -26,7 +28,7 @@ mul-v-2 : tie.Need-mul-v-2
 mul-v-2 c = search needs
 
 slice-write-v-2 : tie.Need-slice-write-v-2
-slice-write-v-2 c = search needs
+slice-write-v-2 c = simp length-set (omega arith)
 
 add-place-3 : tie.Need-add-place-3
 add-place-3 c = search needs
@@ -38,7 +40,7 @@ mul-v-3 : tie.Need-mul-v-3
 mul-v-3 c = search needs
 
 slice-write-v-3 : tie.Need-slice-write-v-3
-slice-write-v-3 c = search needs
+slice-write-v-3 c = simp length-set (omega arith)
 
 add-place-4 : tie.Need-add-place-4
 add-place-4 c = search needs
@@ -50,7 +52,7 @@ mul-v-4 : tie.Need-mul-v-4
 mul-v-4 c = search needs
 
 slice-write-v-4 : tie.Need-slice-write-v-4
-slice-write-v-4 c = search needs
+slice-write-v-4 c = simp length-set (omega arith)
 
 same-length : tie.Need-same-length
 same-length c = search needs

@@ -3,14 +3,14 @@ use borrow.Author.Needs.{needs}
 use Rattle.solve.proofs.block.block_of.Statement.{statement}
 use Rattle.solve.proofs.block.block_of.Tie as tie
 
-add-spot : tie.Need-add-spot
-add-spot c = search needs
+add-place : tie.Need-add-place
+add-place c = search needs
 
-add-spot-2 : tie.Need-add-spot-2
-add-spot-2 c = search needs
+add-place-2 : tie.Need-add-place-2
+add-place-2 c = search needs
 
-spot-requires : tie.Need-spot-requires
-spot-requires c κs = search needs
+place-requires : tie.Need-place-requires
+place-requires c κs = search needs
 
 mul-d : tie.Need-mul-d
 mul-d c = search needs
@@ -18,11 +18,11 @@ mul-d c = search needs
 shared-slice-read-d : tie.Need-shared-slice-read-d
 shared-slice-read-d c = search needs
 
-add-spot-3 : tie.Need-add-spot-3
-add-spot-3 c = search needs
+add-place-3 : tie.Need-add-place-3
+add-place-3 c = search needs
 
-spot-requires-2 : tie.Need-spot-requires-2
-spot-requires-2 c κs = search needs
+place-requires-2 : tie.Need-place-requires-2
+place-requires-2 c κs = search needs
 
 mul-b : tie.Need-mul-b
 mul-b c = search needs
@@ -30,11 +30,11 @@ mul-b c = search needs
 shared-slice-read-b : tie.Need-shared-slice-read-b
 shared-slice-read-b c = search needs
 
-add-spot-4 : tie.Need-add-spot-4
-add-spot-4 c = search needs
+add-place-4 : tie.Need-add-place-4
+add-place-4 c = search needs
 
-spot-requires-3 : tie.Need-spot-requires-3
-spot-requires-3 c κs = search needs
+place-requires-3 : tie.Need-place-requires-3
+place-requires-3 c κs = search needs
 
 mul-c : tie.Need-mul-c
 mul-c c = search needs
@@ -47,23 +47,23 @@ returns c =
     let s3 = c .before in
     let s2 = s3 .before .before in
     let s1 = s2 .before .before in
-    (rw (s1 .spot .ensures .0), rw (s2 .spot2 .ensures .0), rw (s3 .spot3 .ensures .0))
+    (rw (s1 .place .ensures .0), rw (s2 .place2 .ensures .0), rw (s3 .place3 .ensures .0))
 
 pub block-of-spec : {M : Type 1} → statement M
 block-of-spec =
     tie.close
     (tie.spec
-    add-spot
-    add-spot-2
-    spot-requires
+    add-place
+    add-place-2
+    place-requires
     mul-d
     shared-slice-read-d
-    add-spot-3
-    spot-requires-2
+    add-place-3
+    place-requires-2
     mul-b
     shared-slice-read-b
-    add-spot-4
-    spot-requires-3
+    add-place-4
+    place-requires-3
     mul-c
     shared-slice-read-c
     returns)

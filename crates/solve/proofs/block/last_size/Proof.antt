@@ -9,11 +9,11 @@ returns : tie.Need-returns
 unfolding sizeAbove
 returns c = let l = c .if1 .taken in (rw (lt-leb 2 _ l), search needs, search needs, search needs)
 
-add-spot : tie.Need-add-spot
-add-spot c = search needs
+add-place : tie.Need-add-place
+add-place c = search needs
 
-spot-requires : tie.Need-spot-requires
-spot-requires c κs = search needs
+place-requires : tie.Need-place-requires
+place-requires c κs = search needs
 
 mul-if2 : tie.Need-mul-if2
 mul-if2 c = search needs
@@ -26,16 +26,16 @@ unfolding sizeAbove
 returns-2 c =
     let s = c .before .before in
     let l = s .before .if1 .left in
-    (rw (le-leb 2 _ l, rw (s .spot .ensures .0) at (c .if2 .taken)), search needs, search needs, search needs)
+    (rw (le-leb 2 _ l, rw (s .place .ensures .0) at (c .if2 .taken)), search needs, search needs, search needs)
 
 returns-3 : tie.Need-returns-3
 unfolding sizeAbove
 returns-3 c =
     let s = c .before .before in
     let l = s .before .if1 .left in
-    (rw (le-leb 2 _ l, rw (s .spot .ensures .0) at (c .if2 .left)), search needs, search needs, search needs)
+    (rw (le-leb 2 _ l, rw (s .place .ensures .0) at (c .if2 .left)), search needs, search needs, search needs)
 
 pub last-size-spec : {M : Type 1} → statement M
 last-size-spec =
     tie.close
-    (tie.spec returns add-spot spot-requires mul-if2 shared-slice-read-if2 returns-2 returns-3)
+    (tie.spec returns add-place place-requires mul-if2 shared-slice-read-if2 returns-2 returns-3)

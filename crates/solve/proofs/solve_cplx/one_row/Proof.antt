@@ -4,11 +4,11 @@ use borrow.Author.Needs.{needs}
 use Rattle.solve.proofs.solve_cplx.one_row.Statement.{statement}
 use Rattle.solve.proofs.solve_cplx.one_row.Tie as tie
 
-add-row : tie.Need-add-row
-add-row c = search needs
+add-row-start : tie.Need-add-row-start
+add-row-start c = search needs
 
-row-requires : tie.Need-row-requires
-row-requires c κs = search needs
+row-start-requires : tie.Need-row-start-requires
+row-start-requires c κs = search needs
 
 add-dot2x1 : tie.Need-add-dot2x1
 add-dot2x1 c = search needs
@@ -43,8 +43,8 @@ mul-t18 c = search needs
 slice-read-t24 : tie.Need-slice-read-t24
 slice-read-t24 c = search needs
 
-spot-requires : tie.Need-spot-requires
-spot-requires c κs = search needs
+place-requires : tie.Need-place-requires
+place-requires c κs = search needs
 
 mul-t16 : tie.Need-mul-t16
 mul-t16 c = search needs
@@ -73,14 +73,14 @@ returns c =
     let s = i .before .before in
     let d = s .before .before .before .before .before in
     let r = d .before .before in
-    rw (w .put .ensures, t .times .ensures, i .inverse .ensures, s .spot .ensures .0, d .dot2x1 .ensures .0, d .dot2x1 .ensures .1, r .row .ensures .0)
+    rw (w .put .ensures, t .times .ensures, i .inverse .ensures, s .place .ensures .0, d .dot2x1 .ensures .0, d .dot2x1 .ensures .1, r .row-start .ensures .0)
 
 pub one-row-spec : {M : Type 1} → statement M
 one-row-spec =
     tie.close
     (tie.spec
-    add-row
-    row-requires
+    add-row-start
+    row-start-requires
     add-dot2x1
     add-dot2x1-2
     add-dot2x1-3
@@ -92,7 +92,7 @@ one-row-spec =
     add-t19
     mul-t18
     slice-read-t24
-    spot-requires
+    place-requires
     mul-t16
     shared-slice-read-t25
     inverse-requires

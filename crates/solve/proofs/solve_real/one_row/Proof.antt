@@ -4,11 +4,11 @@ use borrow.Author.Needs.{needs}
 use Rattle.solve.proofs.solve_real.one_row.Statement.{statement}
 use Rattle.solve.proofs.solve_real.one_row.Tie as tie
 
-add-row : tie.Need-add-row
-add-row c = search needs
+add-row-start : tie.Need-add-row-start
+add-row-start c = search needs
 
-row-requires : tie.Need-row-requires
-row-requires c κs = search needs
+row-start-requires : tie.Need-row-start-requires
+row-start-requires c κs = search needs
 
 add-inner-prod : tie.Need-add-inner-prod
 add-inner-prod c = search needs
@@ -22,8 +22,8 @@ sub-inner-prod c = search needs
 inner-prod-requires : tie.Need-inner-prod-requires
 inner-prod-requires c κs = search needs
 
-spot-requires : tie.Need-spot-requires
-spot-requires c κs = search needs
+place-requires : tie.Need-place-requires
+place-requires c κs = search needs
 
 mul-divisor : tie.Need-mul-divisor
 mul-divisor c = search needs
@@ -59,19 +59,19 @@ returns c =
     let s = z .before .before in
     let d = s .before in
     let r = d .before .before in
-    rw (c .divided .ensures, z .divisor .ensures, s .spot .ensures .0, d .inner-prod .ensures, r .row .ensures .0)
+    rw (c .divided .ensures, z .divisor .ensures, s .place .ensures .0, d .inner-prod .ensures, r .row-start .ensures .0)
 
 pub one-row-spec : {M : Type 1} → statement M
 one-row-spec =
     tie.close
     (tie.spec
-    add-row
-    row-requires
+    add-row-start
+    row-start-requires
     add-inner-prod
     add-inner-prod-2
     sub-inner-prod
     inner-prod-requires
-    spot-requires
+    place-requires
     mul-divisor
     shared-slice-read-divisor
     divisor-requires
