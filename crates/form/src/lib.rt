@@ -36,8 +36,8 @@ fn any_nonzero(t: &[f64], p: usize, count: usize) -> bool
 }
 
 // Whether one of `count` columns, ld places apart, has a number that is not zero in the `rows` rows from
-// place p on. Called with a written number of rows, so that the compiler tests them without a loop; it
-// leaves at the first such column, which keeps the compiler from gathering numbers of several columns.
+// place p on. The callers write out the number of rows, so that the compiler tests them without a loop; the
+// early exit keeps it from gathering numbers of several columns, which is slower.
 fn any_in_columns(ld: usize, t: &[f64], p: usize, count: usize, rows: usize) -> bool
     requires { ⌜ (p + rows ≤ ld) × (ld * count ≤ length (now t)) ⌝ }
     ensures { λ r. ⌜ r ≡ some count (λ (j : ℕ). some rows (λ (k : ℕ). ne (at (now (t .entry)) (p + ld * j + k)) (ofBits binary64 0))) ⌝ }
@@ -52,8 +52,8 @@ fn any_in_columns(ld: usize, t: &[f64], p: usize, count: usize, rows: usize) -> 
     false
 }
 
-// The same in a corner: the first column has one number less than `rows`, from place p on, and each further
-// one begins a row lower.
+// The same in a corner of `rows` rows: the first column has one number less, from place p on, and each
+// further one begins a row lower.
 fn any_in_corner(ld: usize, t: &[f64], p: usize, rows: usize) -> bool
     requires { ⌜ (1 ≤ rows) × (rows ≤ ld) × (p + ld * rows ≤ length (now t)) ⌝ }
     ensures { λ r. ⌜ r ≡ some (rows - 1) (λ (j : ℕ). some (rows - 1 - j) (λ (k : ℕ). ne (at (now (t .entry)) (p + (ld + 1) * j + k)) (ofBits binary64 0))) ⌝ }
@@ -115,7 +115,7 @@ fn nonzero_below(n: usize, t: &[f64], j: usize) -> bool
     t[place(n, n, j + 1, j)] != 0.0
 }
 
-// Line 6. Of two neighbours one is in an odd column: the others are read only where that one is not zero.
+// Line 6. Of two neighbours one is in an odd column, so one test for each odd column does.
 fn touching(n: usize, t: &[f64]) -> bool
     requires { ⌜ (n ≤ 64) × (length (now t) ≡ n * n) ⌝ }
     ensures { λ r. ⌜ r ≡ Form.line6 binary64 n n (now (t .entry)) ⌝ }

@@ -1,12 +1,10 @@
 -- `form::any_in_columns` meets its contract. The invariant: the first j columns have none. Assumes nothing.
 use mathlib.Core.Path.{_≡_, refl, sym, _∙_}
-use mathlib.Core.Bool.{true, false}
-use Prim.Native.Nat.{ℕ, suc, _+_, _-_, _*_, _≤_, _<_}
+use mathlib.Core.Bool.{false}
+use Prim.Native.Nat.{_-_, _≤_}
 use native.Mathlib.Numerals.{add-one}
 use native.Mathlib.Nat.{le-antisymm, mul-le-mul-left}
 use native.Mathlib.Omega.{arith}
-use lib.ListN.{length}
-use lib.Ieee.{binary64, ne, ofBits}
 use borrow.Author.Needs.{needs}
 use Rattle.model.specs.Form.{at, some}
 use Rattle.form.proofs.Some.{found}

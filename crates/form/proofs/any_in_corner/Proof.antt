@@ -1,6 +1,6 @@
 -- `form::any_in_corner` meets its contract. The invariant: what is seen is what the first j columns have. Assumes nothing.
-use mathlib.Core.Path.{_≡_, refl, _∙_}
-use Prim.Native.Nat.{ℕ, suc, _+_, _-_, _*_, _≤_, _<_}
+use mathlib.Core.Path.{_≡_, refl}
+use Prim.Native.Nat.{ℕ, suc, _+_, _-_, _*_, _≤_}
 use native.Mathlib.Numerals.{add-one}
 use native.Mathlib.Nat.{le-antisymm, mul-le-mul-left}
 use native.Mathlib.Omega.{arith}

@@ -1,7 +1,7 @@
 -- `form::touching` meets its contract. The invariant: the first j columns have no neighbours that are both not zero. Assumes nothing.
-use mathlib.Core.Path.{_≡_, refl, sym, _∙_}
+use mathlib.Core.Path.{_≡_, refl, sym}
 use mathlib.Core.Bool.{Bool, true, false, _||_, _&&_, true≢false}
-use Prim.Native.Nat.{ℕ, suc, _+_, _-_, _*_, _≤_, _<_}
+use Prim.Native.Nat.{suc, _-_, _≤_}
 use native.Mathlib.Omega.{arith}
 use lib.Ieee.{binary64}
 use borrow.Author.Needs.{needs}
