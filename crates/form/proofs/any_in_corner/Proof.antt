@@ -49,7 +49,7 @@ loop-less c = search needs
 
 loop-again : tie.Need-loop-again Inv-loop μ-loop
 unfolding some
-loop-again c = (search needs, rw (add-one, c .before .before .loop .inv .1, c .any-nonzero .ensures))
+loop-again c = let l = c .before .before in (search needs, rw (add-one (l .loop .j), l .loop .inv .1, c .any-nonzero .ensures))
 
 returns : tie.Need-returns Inv-loop μ-loop
 returns c = let l = c .before in rw (le-antisymm (l .loop .inv .0) (c .loop-test .left)) at (l .loop .inv .1)
