@@ -1,3 +1,5 @@
 pub mod Inside
 pub mod Accepted
 pub mod Runs
+pub mod Some
+pub mod Below

@@ -35,26 +35,103 @@ fn any_nonzero(t: &[f64], p: usize, count: usize) -> bool
     seen
 }
 
-// What the columns seen so far have below the subdiagonal, and two neighbouring 2-blocks.
-struct Seen {
-    deep: bool,
-    touching: bool,
+// Whether one of `count` columns, ld places apart, has a number that is not zero in the `rows` rows from
+// place p on. The callers write out the number of rows, so that the compiler tests them without a loop; the
+// early exit keeps it from gathering numbers of several columns, which is slower.
+fn any_in_columns(ld: usize, t: &[f64], p: usize, count: usize, rows: usize) -> bool
+    requires { ⌜ (p + rows ≤ ld) × (ld * count ≤ length (now t)) ⌝ }
+    ensures { λ r. ⌜ r ≡ some count (λ (j : ℕ). some rows (λ (k : ℕ). ne (at (now (t .entry)) (p + ld * j + k)) (ofBits binary64 0))) ⌝ }
+{
+    let mut j = 0;
+    while j < count {
+        if any_nonzero(t, p + ld * j, rows) {
+            return true;
+        }
+        j += 1;
+    }
+    false
 }
 
-// The same with column j.
-fn with_column(seen: Seen, n: usize, t: &[f64], j: usize) -> Seen
-    requires { ⌜ (j + 2 < n) × (n ≤ 64) × (length (now t) ≡ n * n) ⌝ }
-    ensures deep { λ r. ⌜ r .deep ≡ (seen .deep || Form.deepIn binary64 n n (now (t .entry)) j) ⌝ }
-    ensures touching { λ r. ⌜ r .touching ≡ (seen .touching || Form.touchingIn binary64 n (now (t .entry)) j) ⌝ }
+// The same in a corner of `rows` rows: the first column has one number less, from place p on, and each
+// further one begins a row lower.
+fn any_in_corner(ld: usize, t: &[f64], p: usize, rows: usize) -> bool
+    requires { ⌜ (1 ≤ rows) × (rows ≤ ld) × (p + ld * rows ≤ length (now t)) ⌝ }
+    ensures { λ r. ⌜ r ≡ some (rows - 1) (λ (j : ℕ). some (rows - 1 - j) (λ (k : ℕ). ne (at (now (t .entry)) (p + (ld + 1) * j + k)) (ofBits binary64 0))) ⌝ }
 {
-    let below = place(n, n, j + 2, j);
-    let deep = any_nonzero(t, below, n - (j + 2));
-    let here = t[place(n, n, j + 1, j)] != 0.0;
-    let next = t[place(n, n, j + 1 + 1, j + 1)] != 0.0;
-    Seen {
-        deep: seen.deep | deep,
-        touching: seen.touching | (here & next),
+    let mut seen = false;
+    let mut j = 0;
+    while j < rows - 1 {
+        seen = seen | any_nonzero(t, p + (ld + 1) * j, rows - 1 - j);
+        j += 1;
     }
+    seen
+}
+
+// Whether one of the `rows` rows from row `top` on has a number that is not zero more than one row below the
+// diagonal: whole columns, then the corner at the diagonal.
+fn deep_rows(ld: usize, t: &[f64], top: usize, rows: usize) -> bool
+    requires { ⌜ (1 ≤ top) × (1 ≤ rows) × (top + rows ≤ ld) × (ld * (top + rows) ≤ length (now t)) ⌝ }
+    ensures { λ r. ⌜ r ≡ some rows (λ (i : ℕ). some (top + i - 1) (λ (j : ℕ). ne (at (now (t .entry)) (top + i + ld * j)) (ofBits binary64 0))) ⌝ }
+{
+    let whole = top - 1;
+    if any_in_columns(ld, t, top, whole, rows) {
+        return true;
+    }
+    any_in_corner(ld, t, top + 1 + ld * whole, rows)
+}
+
+// Line 5, from the last rows up: eight rows at a time, then four, then one.
+fn deep(n: usize, t: &[f64]) -> bool
+    requires { ⌜ (n ≤ 64) × (length (now t) ≡ n * n) ⌝ }
+    ensures { λ r. ⌜ r ≡ Form.line5 binary64 n n (now (t .entry)) ⌝ }
+{
+    let mut m = n;
+    while 8 < m {
+        if deep_rows(n, t, m - 8, 8) {
+            return true;
+        }
+        m -= 8;
+    }
+    while 4 < m {
+        if deep_rows(n, t, m - 4, 4) {
+            return true;
+        }
+        m -= 4;
+    }
+    while 1 < m {
+        if deep_rows(n, t, m - 1, 1) {
+            return true;
+        }
+        m -= 1;
+    }
+    false
+}
+
+// Whether the number just below the diagonal in column j is not zero.
+fn nonzero_below(n: usize, t: &[f64], j: usize) -> bool
+    requires { ⌜ (j + 1 < n) × (n ≤ 64) × (length (now t) ≡ n * n) ⌝ }
+    ensures { λ r. ⌜ r ≡ Form.nonzeroBelow binary64 n (now (t .entry)) j ⌝ }
+{
+    t[place(n, n, j + 1, j)] != 0.0
+}
+
+// Line 6. Of two neighbours one is in an odd column, so one test for each odd column does.
+fn touching(n: usize, t: &[f64]) -> bool
+    requires { ⌜ (n ≤ 64) × (length (now t) ≡ n * n) ⌝ }
+    ensures { λ r. ⌜ r ≡ Form.line6 binary64 n n (now (t .entry)) ⌝ }
+{
+    let mut j = 0;
+    while j + 3 < n {
+        let beside = nonzero_below(n, t, j) | nonzero_below(n, t, j + 1 + 1);
+        if nonzero_below(n, t, j + 1) & beside {
+            return true;
+        }
+        j += 2;
+    }
+    if j + 2 < n {
+        return nonzero_below(n, t, j) & nonzero_below(n, t, j + 1);
+    }
+    false
 }
 
 // 5 or 6, the first that applies, or 0.
@@ -62,19 +139,12 @@ fn shape_line(n: usize, t: &[f64]) -> usize
     requires { ⌜ (n ≤ 64) × (length (now t) ≡ n * n) ⌝ }
     ensures { λ r. ⌜ r ≡ cond (Form.line5 binary64 n n (now (t .entry))) 5 (cond (Form.line6 binary64 n n (now (t .entry))) 6 0) ⌝ }
 {
-    let mut seen = Seen {
-        deep: false,
-        touching: false,
-    };
-    let mut j = 0;
-    while j + 2 < n {
-        seen = with_column(seen, n, t, j);
-        j += 1;
-    }
-    if seen.deep {
+    let far = deep(n, t);
+    let near = touching(n, t);
+    if far {
         return 5;
     }
-    if seen.touching { 6 } else { 0 }
+    if near { 6 } else { 0 }
 }
 
 // The first line that applies to a form by itself, 2, 3, 5 or 6, or 0.
