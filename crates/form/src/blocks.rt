@@ -18,7 +18,7 @@ pub fn zero_below(t: &[f64], n: usize, j: usize) -> bool
 }
 
 // Whether it is not.
-fn nonzero_below(t: &[f64], n: usize, j: usize) -> bool
+pub fn nonzero_below(t: &[f64], n: usize, j: usize) -> bool
     requires { ⌜ Sized n (now t) × (j + 1 < n) ⌝ }
     ensures { λ r. ⌜ r ≡ Form.nonzeroBelow binary64 n (now (t .entry)) j ⌝ }
 {

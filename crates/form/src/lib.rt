@@ -7,6 +7,8 @@ ghost use lib.ListN.{length};
 ghost use lib.Ieee.{binary64, ne, ofBits};
 ghost use Rattle.model.specs.Form as Form;
 ghost use Rattle.model.specs.Form.{at, some};
+ghost use Rattle.form.specs.Run.{Sized};
+use crate::blocks::nonzero_below;
 
 pub mod blocks;
 pub mod lines;
@@ -107,29 +109,21 @@ fn deep(n: usize, t: &[f64]) -> bool
     false
 }
 
-// Whether the number just below the diagonal in column j is not zero.
-fn nonzero_below(n: usize, t: &[f64], j: usize) -> bool
-    requires { ⌜ (j + 1 < n) × (n ≤ 64) × (length (now t) ≡ n * n) ⌝ }
-    ensures { λ r. ⌜ r ≡ Form.nonzeroBelow binary64 n (now (t .entry)) j ⌝ }
-{
-    t[place(n, n, j + 1, j)] != 0.0
-}
-
 // Line 6. Of two neighbours one is in an odd column, so one test for each odd column does.
 fn touching(n: usize, t: &[f64]) -> bool
-    requires { ⌜ (n ≤ 64) × (length (now t) ≡ n * n) ⌝ }
+    requires { ⌜ Sized n (now t) ⌝ }
     ensures { λ r. ⌜ r ≡ Form.line6 binary64 n n (now (t .entry)) ⌝ }
 {
     let mut j = 0;
     while j + 3 < n {
-        let beside = nonzero_below(n, t, j) | nonzero_below(n, t, j + 1 + 1);
-        if nonzero_below(n, t, j + 1) & beside {
+        let beside = nonzero_below(t, n, j) | nonzero_below(t, n, j + 1 + 1);
+        if nonzero_below(t, n, j + 1) & beside {
             return true;
         }
         j += 2;
     }
     if j + 2 < n {
-        return nonzero_below(n, t, j) & nonzero_below(n, t, j + 1);
+        return nonzero_below(t, n, j) & nonzero_below(t, n, j + 1);
     }
     false
 }
