@@ -12,7 +12,8 @@ use Rattle.model.specs.Move.{Exchange, goalDown}
 use Rattle.laws_dtrexc.specs.Dtrexc.{Routines, Call, Variables, Control, goes, returns, _>>=_, Returned, ilstHere, toRow, NE, call, callOrReturn, breaks, below, below3Past2, below3, label10, above, above3Past2, above3, label20, returned, updated, firstOf, sizeOf, dtrexcBy, dtrexc}
 use Rattle.laws_dtrexc.specs.Choice.{asCall}
 use Rattle.laws_dtrexc.specs.Zeros.{Zeros, firstBy, sizeBy, aboveBy, Place, between, pastOne, pastTwo, halfPast, takes, ended, rows, lower, upper, splits, next, start, left}
-use Rattle.laws_dtrexc.proofs.Seen.{ltb-next}
+use Rattle.laws_dtrexc.proofs.Seen.{guard, guard-above, ltb-next}
+use Rattle.laws_dtrexc.proofs.Kept.{kind}
 use Rattle.laws_dtrexc.proofs.Next
 use Rattle.laws_dtrexc.proofs.Next.{Settled, settled-three, settled-split, settled-size, split-in, size-cases, above-cases}
 use Rattle.laws_dtrexc.proofs.Follow.{Follows, follows-as}
@@ -69,3 +70,190 @@ module _ {Form : Type 0} (r : Routines Form) (n : ℕ) where
       go : (b : Bool) → eqb (fails T e) 0 ≡ b → Runs p T cs ((cond b (goes w) (returns (ilstHere w)) >>= F) >>= K)
       go true z = more p q T cs e (F w >>= K) y k
       go false z = record { es = e ∷ []; calls = refl; form = refl; follows = (q, y, λ g. absurd (eqb-false (fails T e) 0 z g)) }
+
+  -- ---- its tests are those of the zeros
+
+  zero-at : (T : Form) (I J j : ℕ) → I ≡ j + 2 → J ≡ j + 1 → r .zero T I J ≡ tests T j
+  zero-at T I J j p q = rw (p, q)
+
+  size-of : (T : Form) (I J j : ℕ) → I ≡ j + 2 → J ≡ j + 1 → cond (leb I n && NE r T I J) 2 1 ≡ sizeBy n (tests T) j
+  unfolding sizeBy
+  size-of T I J j p q =
+      let e : I ≡ suc (j + 1) = omega arith in
+      rw (zero-at T I J j p q) (ap (λ (k : ℕ). cond (leb k n && not (tests T j)) 2 1) e)
+
+  above-of : (T : Form) (p : ℕ) → cond (leb 3 (p + 1) && NE r T (p + 1 - 1) (p + 1 - 2)) 2 1 ≡ aboveBy (tests T) p
+  unfolding aboveBy
+  above-of T p =
+      ap (λ (b : Bool). cond b 2 1)
+      (guard _ _ _ _ (guard-above 2 p) (λ h. let l = leb-true 2 p h in ap not (zero-at T (p + 1 - 1) (p + 1 - 2) (p - 2) (omega arith) (omega arith))))
+
+  -- HERE = ROW, and the test whether a 2 by 2 block breaks
+  breaks-at : (T : Form) (goal h b i : ℕ) (cs : List Call) (ROW row : ℕ) → ROW ≡ row + 1 → breaks r (toRow ROW (vars T goal h b i cs)) ≡ vars T goal row (splits (tests T) row b) i cs
+  unfolding breaks toRow splits
+  breaks-at T goal h b i cs ROW row e = rw (e, zero-at T (row + 1 + 1) (row + 1) row (omega arith) refl)
+
+  row-at : (T : Form) (goal h b i : ℕ) (cs : List Call) (ROW row : ℕ) → ROW ≡ row + 1 → toRow ROW (vars T goal h b i cs) ≡ vars T goal row b i cs
+  unfolding toRow
+  row-at T goal h b i cs ROW row e = rw e
+
+  -- the block above has room there
+  fits-above : (Z : Zeros) (h : ℕ) → 0 < h → aboveBy Z h ≤ h
+  fits-above Z h l = elim (above-cases Z h) [ inl e ↦ omega (arith, e .0, e .1) | inr e ↦ omega arith ]
+
+  module _ (goal : ℕ) (K : Variables Form → Control Form) where
+    -- ---- label 10
+
+    -- whatever comes after a time round that ends in a row further down
+    abbrev Down : ℕ → Type 0
+    Down h =
+        (T : Form) (x b i : ℕ) (cs : List Call) → 1 ≤ b → b ≤ 3 → Settled (tests T) x b → h < x → Runs (lower goal x b between) T cs (K (vars T goal x b i cs))
+
+    module _ (h b : ℕ) (low : 1 ≤ b) (high : b ≤ 3) where
+      whole-down : (T : Form) (i : ℕ) (cs : List Call) → Settled (tests T) h b → ltb h goal ≡ true → eqb b 3 ≡ false → Down h → Runs (lower goal h b between) T cs (below r n (vars T goal h b i cs) >>= K)
+      unfolding below
+      whole-down T i cs s l e c =
+          let k = sizeBy n (tests T) (h + b) in
+          let d = rows h b k in
+          let U = leaves T d in
+          let p = split-in (tests U) (h + k) b low high in
+          rw (size-of T (h + 1 + b + 1) (h + 1 + b) (h + b) (omega arith) (omega arith))
+          (calling (lower goal h b between) (lower goal (h + k) b between) d (h + 1) refl T goal h b i cs (λ w. goes (breaks r (toRow (w .HERE + k) w))) K
+          (Next.down-whole n (tests T) goal h b s l e k refl)
+          (runs-as _ (lower goal (h + k) (splits (tests U) (h + k) b) between) U _ _ (Next.down-split n (tests U) goal (h + k) b)
+          (rw (breaks-at U goal h b (fails T d) (cs ++ (asCall d ∷ [])) (h + 1 + k) (h + k) (omega arith))
+          (c U (h + k) (splits (tests U) (h + k) b) (fails T d) _ (p .0) (p .1) (settled-split (tests U) (h + k) b) (omega (arith, Next.some-size n (tests T) (h + b)))))))
+
+      past-down : (T : Form) (i : ℕ) (cs : List Call) → eqb b 3 ≡ true → Down h → Runs (lower goal h b pastTwo) T cs (below3Past2 r n (vars T goal h b i cs) >>= K)
+      unfolding below3Past2
+      past-down T i cs e c = go (tests T (h + 1)) refl
+        where
+          one : Exchange
+          one = rows h 1 1
+
+          two : Exchange
+          two = rows (h + 1) 1 1
+
+          both : Exchange
+          both = rows h 1 2
+
+          go : (q : Bool) → tests T (h + 1) ≡ q → Runs (lower goal h b pastTwo) T cs (below3Past2 r n (vars T goal h b i cs) >>= K)
+          go true q =
+              let U = leaves T one in
+              let ds = cs ++ (asCall one ∷ []) in
+              let W = leaves U two in
+              rw (q, called one (h + 1) refl T goal h b i cs, called two (h + 1 + 1) refl U goal h b (fails T one) ds, row-at W goal h b (fails U two) (ds ++ (asCall two ∷ [])) (h + 1 + 2) (h + 2) (omega arith))
+              (more _ (lower goal h b halfPast) T cs one _ (Next.down-half n (tests T) goal h b q)
+              (more _ (lower goal (h + 2) b between) U ds two _ (Next.down-rest n (tests U) goal h b) (c W (h + 2) b _ _ low high (settled-three _ (h + 2) b e) (omega arith))))
+          go false q =
+              let U = leaves T both in
+              let ds = cs ++ (asCall both ∷ []) in
+              rw q
+              (calling _ (lower goal (h + 2) b between) both (h + 1) refl T goal h b i cs (λ w. goes (toRow (w .HERE + 2) w)) K (Next.down-two n (tests T) goal h b q)
+              (rw (row-at U goal h b (fails T both) ds (h + 1 + 2) (h + 2) (omega arith)) (c U (h + 2) b _ _ low high (settled-three _ (h + 2) b e) (omega arith))))
+
+      apart-down : (T : Form) (i : ℕ) (cs : List Call) → Settled (tests T) h b → ltb h goal ≡ true → eqb b 3 ≡ true → Down h → Runs (lower goal h b between) T cs (below3 r n (vars T goal h b i cs) >>= K)
+      unfolding below3
+      apart-down T i cs s l e c =
+          let one = rows (h + 1) 1 1 in
+          let two = rows (h + 1) 1 2 in
+          let then = rows h 1 1 in
+          let U = leaves T one in
+          let ds = cs ++ (asCall one ∷ []) in
+          let W = leaves U then in
+          rw (size-of T (h + 1 + 3) (h + 1 + 2) (h + 2) (omega arith) (omega arith))
+          (elim (size-cases n (tests T) (h + 2)) [
+            | inl q ↦ rw (q .0)
+                (calling _ (lower goal h b pastTwo) two (h + 1 + 1) refl T goal h b i cs (below3Past2 r n) K (Next.down-apart n (tests T) goal h b s l e 2 (q .0)) (past-down (leaves T two) _ _ e c))
+            | inr q ↦ rw q
+                (calling _ (lower goal h b pastOne) one (h + 1 + 1) refl T goal h b i cs (λ w. let x = call r (w .HERE) 1 1 w in goes (toRow (x .HERE + 1) x)) K (Next.down-apart n (tests T) goal h b s l e 1 q)
+                (rw (called then (h + 1) refl U goal h b (fails T one) ds, row-at W goal h b (fails U then) (ds ++ (asCall then ∷ [])) (h + 1 + 1) (h + 1) (omega arith))
+                (more _ (lower goal (h + 1) b between) U ds then _ (Next.down-one n (tests U) goal h b) (c W (h + 1) b _ _ low high (settled-three _ (h + 1) b e) (omega arith)))))
+          ])
+
+      once-down : (T : Form) (i : ℕ) (cs : List Call) → Settled (tests T) h b → ltb h goal ≡ true → Down h
+          → Runs (lower goal h b between) T cs (cond (eqb b 1 || eqb b 2) (below r n (vars T goal h b i cs)) (below3 r n (vars T goal h b i cs)) >>= K)
+      once-down T i cs s l c = elim (kind b low high) [ inl e ↦ rw (e .1) (apart-down T i cs s l (e .0) c) | inr e ↦ rw (e .1) (whole-down T i cs s l (e .0) c) ]
+
+    -- ---- label 20
+
+    -- whatever comes after a time round that ends in a row further up
+    abbrev Up : ℕ → Type 0
+    Up h =
+        (T : Form) (x b i : ℕ) (cs : List Call) → 1 ≤ b → b ≤ 3 → Settled (tests T) x b → x < h → Runs (upper goal x b between) T cs (K (vars T goal x b i cs))
+
+    module _ (h b : ℕ) (low : 1 ≤ b) (high : b ≤ 3) where
+      whole-up : (T : Form) (i : ℕ) (cs : List Call) → Settled (tests T) h b → ltb goal h ≡ true → eqb b 3 ≡ false → Up h → Runs (upper goal h b between) T cs (above r (vars T goal h b i cs) >>= K)
+      unfolding above
+      whole-up T i cs s l e c =
+          let k = aboveBy (tests T) h in
+          let d = rows (h - k) k b in
+          let U = leaves T d in
+          let p = split-in (tests U) (h - k) b low high in
+          let a = ltb-true goal h l in
+          let f = fits-above (tests T) h (omega arith) in
+          let g = Next.some-above (tests T) h in
+          rw (above-of T h)
+          (calling (upper goal h b between) (upper goal (h - k) b between) d (h + 1 - k) (omega arith) T goal h b i cs (λ w. goes (breaks r (toRow (w .HERE - k) w))) K
+          (Next.up-whole n (tests T) goal h b s l e k refl)
+          (runs-as _ (upper goal (h - k) (splits (tests U) (h - k) b) between) U _ _ (Next.up-split n (tests U) goal (h - k) b)
+          (rw (breaks-at U goal h b (fails T d) (cs ++ (asCall d ∷ [])) (h + 1 - k) (h - k) (omega arith))
+          (c U (h - k) (splits (tests U) (h - k) b) (fails T d) _ (p .0) (p .1) (settled-split (tests U) (h - k) b) (omega arith)))))
+
+      past-up : (T : Form) (i : ℕ) (cs : List Call) → eqb b 3 ≡ true → 2 ≤ h → Up h → Runs (upper goal h b pastTwo) T cs (above3Past2 r (vars T goal h b i cs) >>= K)
+      unfolding above3Past2
+      past-up T i cs e a c = go (tests T (h - 1)) refl
+        where
+          one : Exchange
+          one = rows h 1 1
+
+          two : Exchange
+          two = rows (h - 1) 1 1
+
+          both : Exchange
+          both = rows (h - 1) 2 1
+
+          go : (q : Bool) → tests T (h - 1) ≡ q → Runs (upper goal h b pastTwo) T cs (above3Past2 r (vars T goal h b i cs) >>= K)
+          go true q =
+              let U = leaves T one in
+              let ds = cs ++ (asCall one ∷ []) in
+              let W = leaves U two in
+              rw (
+                zero-at T (h + 1) (h + 1 - 1) (h - 1) (omega arith) (omega arith),
+                q,
+                called one (h + 1) refl T goal h b i cs,
+                called two (h + 1 - 1) (omega arith) U goal h b (fails T one) ds,
+                row-at W goal h b (fails U two) (ds ++ (asCall two ∷ [])) (h + 1 - 2) (h - 2) (omega arith),
+              )
+              (more _ (upper goal h b halfPast) T cs one _ (Next.up-half n (tests T) goal h b q)
+              (more _ (upper goal (h - 2) b between) U ds two _ (Next.up-rest n (tests U) goal h b) (c W (h - 2) b _ _ low high (settled-three _ (h - 2) b e) (omega arith))))
+          go false q =
+              let U = leaves T both in
+              let ds = cs ++ (asCall both ∷ []) in
+              rw (zero-at T (h + 1) (h + 1 - 1) (h - 1) (omega arith) (omega arith), q)
+              (calling _ (upper goal (h - 2) b between) both (h + 1 - 1) (omega arith) T goal h b i cs (λ w. goes (toRow (w .HERE - 2) w)) K (Next.up-two n (tests T) goal h b q)
+              (rw (row-at U goal h b (fails T both) ds (h + 1 - 2) (h - 2) (omega arith)) (c U (h - 2) b _ _ low high (settled-three _ (h - 2) b e) (omega arith))))
+
+      apart-up : (T : Form) (i : ℕ) (cs : List Call) → Settled (tests T) h b → ltb goal h ≡ true → eqb b 3 ≡ true → Up h → Runs (upper goal h b between) T cs (above3 r (vars T goal h b i cs) >>= K)
+      unfolding above3
+      apart-up T i cs s l e c =
+          let one = rows (h - 1) 1 1 in
+          let two = rows (h - 2) 2 1 in
+          let then = rows h 1 1 in
+          let U = leaves T one in
+          let ds = cs ++ (asCall one ∷ []) in
+          let W = leaves U then in
+          let a = ltb-true goal h l in
+          rw (above-of T h)
+          (elim (above-cases (tests T) h) [
+            | inl q ↦ let f = q .1 in rw (q .0)
+                (calling _ (upper goal h b pastTwo) two (h + 1 - 2) (omega arith) T goal h b i cs (above3Past2 r) K (Next.up-apart n (tests T) goal h b s l e 2 (q .0)) (past-up (leaves T two) _ _ e f c))
+            | inr q ↦ rw q
+                (calling _ (upper goal h b pastOne) one (h + 1 - 1) (omega arith) T goal h b i cs (λ w. let x = call r (w .HERE) 1 1 w in goes (toRow (x .HERE - 1) x)) K (Next.up-apart n (tests T) goal h b s l e 1 q)
+                (rw (called then (h + 1) refl U goal h b (fails T one) ds, row-at W goal h b (fails U then) (ds ++ (asCall then ∷ [])) (h + 1 - 1) (h - 1) (omega arith))
+                (more _ (upper goal (h - 1) b between) U ds then _ (Next.up-one n (tests U) goal h b) (c W (h - 1) b _ _ low high (settled-three _ (h - 1) b e) (omega arith)))))
+          ])
+
+      once-up : (T : Form) (i : ℕ) (cs : List Call) → Settled (tests T) h b → ltb goal h ≡ true → Up h
+          → Runs (upper goal h b between) T cs (cond (eqb b 1 || eqb b 2) (above r (vars T goal h b i cs)) (above3 r (vars T goal h b i cs)) >>= K)
+      once-up T i cs s l c = elim (kind b low high) [ inl e ↦ rw (e .1) (apart-up T i cs s l (e .0) c) | inr e ↦ rw (e .1) (whole-up T i cs s l (e .0) c) ]

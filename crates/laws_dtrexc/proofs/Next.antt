@@ -29,6 +29,12 @@ above-cases Z p = go (leb 2 p) (Z (p - 2)) refl
     go true true e = inr refl
     go false b e = inr refl
 
+pub some-size : (n : ℕ) (Z : Zeros) (p : ℕ) → 1 ≤ sizeBy n Z p
+some-size n Z p = elim (size-cases n Z p) [ inl e ↦ omega (arith, e .0) | inr e ↦ omega (arith, e) ]
+
+pub some-above : (Z : Zeros) (p : ℕ) → 1 ≤ aboveBy Z p
+some-above Z p = elim (above-cases Z p) [ inl e ↦ omega (arith, e .0) | inr e ↦ omega (arith, e) ]
+
 -- ---- the cases of a place between two steps, with a block that has been asked whether it splits
 
 pub Settled : Zeros → ℕ → ℕ → Type 0

@@ -14,6 +14,7 @@ use Rattle.model.specs.Swaps.{unchanged, andThen}
 use Rattle.model.specs.Move.{Exchange, Moving, firstRow, sizeAt, sizeAbove, exchanging, arrived, landedWhole, downWhole, downPastTwo, downApart, downStep, downBy, upWhole, upPastTwo, upApart, upStep, upBy, goalDown, moveFrom, move}
 use Rattle.laws_dtrexc.specs.Choice.{make}
 use Rattle.laws_dtrexc.specs.Zeros.{Zeros, firstBy, sizeBy, aboveBy, Place, Stage, between, pastOne, pastTwo, halfPast, takes, ended, rows, lower, upper, splits, next, start}
+use Rattle.laws_dtrexc.proofs.Next
 use Rattle.laws_dtrexc.proofs.Next.{size-cases, above-cases, Settled, settled-three, settled-split, settled-size, down-split, up-split, down-there, up-there, down-whole, down-apart, up-whole, up-apart, down-one, down-two, down-half, down-rest, up-one, up-two, up-half, up-rest}
 use Rattle.laws_dtrexc.proofs.Arrives.{first-le, goal-le}
 use Rattle.laws_dtrexc.proofs.Follow.{Follows, follows-as}
@@ -39,10 +40,10 @@ module _ (f : Format) (ld n : ℕ) where
   first-is t p = refl
 
   some-size : (t : List Float) (p : ℕ) → 1 ≤ sizeAt f ld n t p
-  some-size t p = let z = size-is t p in elim (size-cases n (zeroBelow f ld t) p) [ inl q ↦ omega (arith, z, q .0) | inr q ↦ omega (arith, z, q) ]
+  some-size t p = subst (λ (k : ℕ). 1 ≤ k) (size-is t p) (Next.some-size n (zeroBelow f ld t) p)
 
   some-above : (t : List Float) (p : ℕ) → 1 ≤ sizeAbove f ld t p
-  some-above t p = let z = above-is t p in elim (above-cases (zeroBelow f ld t) p) [ inl q ↦ omega (arith, z, q .0) | inr q ↦ omega (arith, z, q) ]
+  some-above t p = subst (λ (k : ℕ). 1 ≤ k) (above-is t p) (Next.some-above (zeroBelow f ld t) p)
 
   -- after the exchanges l all of them are r, and what came on follows from the place p and the form t on
   pub record Rest (l r : List Exchange) (p : Place) (t : List Float) : Type 0 where
