@@ -257,3 +257,122 @@ module _ {Form : Type 0} (r : Routines Form) (n : ℕ) where
       once-up : (T : Form) (i : ℕ) (cs : List Call) → Settled (tests T) h b → ltb goal h ≡ true → Up h
           → Runs (upper goal h b between) T cs (cond (eqb b 1 || eqb b 2) (above r (vars T goal h b i cs)) (above3 r (vars T goal h b i cs)) >>= K)
       once-up T i cs s l c = elim (kind b low high) [ inl e ↦ rw (e .1) (apart-up T i cs s l (e .0) c) | inr e ↦ rw (e .1) (whole-up T i cs s l (e .0) c) ]
+
+  -- ---- the loops
+
+  -- after a time round: to the label, or there
+  after-down : (k goal : ℕ) (T : Form) (h b i : ℕ) (cs : List Call) → (ltb h goal ≡ true → Runs (lower goal h b between) T cs (label10 r n k (vars T goal h b i cs)))
+      → Runs (lower goal h b between) T cs (cond (ltb (h + 1) (goal + 1)) (label10 r n k (vars T goal h b i cs)) (goes (vars T goal h b i cs)))
+  after-down k goal T h b i cs again = rw (ltb-next h goal) (go (ltb h goal) refl)
+    where
+      go : (x : Bool) → ltb h goal ≡ x → Runs (lower goal h b between) T cs (cond x (label10 r n k (vars T goal h b i cs)) (goes (vars T goal h b i cs)))
+      go true e = again e
+      go false e = over _ (vars T goal h b i cs) (Next.down-there n (tests T) goal h b e)
+
+  down-loop : (k goal : ℕ) (T : Form) (h b i : ℕ) (cs : List Call) → 1 ≤ b → b ≤ 3 → Settled (tests T) h b → goal ≤ h + k → ltb h goal ≡ true → Runs (lower goal h b between) T cs (label10 r n k (vars T goal h b i cs))
+  unfolding label10
+  down-loop zero goal T h b i cs low high s g l = let a = ltb-true h goal l in absurd (omega arith)
+  down-loop (suc k) goal T h b i cs low high s g l =
+      once-down goal (λ w. cond (ltb (w .HERE) (w .ILST)) (label10 r n k w) (goes w)) h b low high T i cs s l
+      (λ U x c j ds low′ high′ s′ q. after-down k goal U x c j ds (λ e. down-loop k goal U x c j ds low′ high′ s′ (omega arith) e))
+
+  after-up : (k goal : ℕ) (T : Form) (h b i : ℕ) (cs : List Call) → (ltb goal h ≡ true → Runs (upper goal h b between) T cs (label20 r k (vars T goal h b i cs)))
+      → Runs (upper goal h b between) T cs (cond (ltb (goal + 1) (h + 1)) (label20 r k (vars T goal h b i cs)) (goes (vars T goal h b i cs)))
+  after-up k goal T h b i cs again = rw (ltb-next goal h) (go (ltb goal h) refl)
+    where
+      go : (x : Bool) → ltb goal h ≡ x → Runs (upper goal h b between) T cs (cond x (label20 r k (vars T goal h b i cs)) (goes (vars T goal h b i cs)))
+      go true e = again e
+      go false e = over _ (vars T goal h b i cs) (Next.up-there n (tests T) goal h b e)
+
+  up-loop : (k goal : ℕ) (T : Form) (h b i : ℕ) (cs : List Call) → 1 ≤ b → b ≤ 3 → Settled (tests T) h b → h ≤ goal + k → ltb goal h ≡ true → Runs (upper goal h b between) T cs (label20 r k (vars T goal h b i cs))
+  unfolding label20
+  up-loop zero goal T h b i cs low high s g l = let a = ltb-true goal h l in absurd (omega arith)
+  up-loop (suc k) goal T h b i cs low high s g l =
+      once-up goal (λ w. cond (ltb (w .ILST) (w .HERE)) (label20 r k w) (goes w)) h b low high T i cs s l
+      (λ U x c j ds low′ high′ s′ q. after-up k goal U x c j ds (λ e. up-loop k goal U x c j ds low′ high′ s′ (omega arith) e))
+
+  -- ---- the whole
+
+  pub record Chosen (p : Place) (T : Form) (v : Returned Form) : Type 0 where
+    pub es : List Exchange
+    pub calls : v .calls ≡ map asCall es
+    pub form : v .T ≡ left r T (map asCall es)
+    pub follows : Theirs p T es
+
+  chosen : (p : Place) (T : Form) (c : Control Form) → Runs p T [] c → Chosen p T (returned c)
+  chosen p T c k = record { es = k .es; calls = k .calls; form = k .form; follows = k .follows }
+
+  stays : (p : Place) (T : Form) (ILST : ℕ) → next n p (tests T) ≡ ended → Chosen p T (record { T = T; ILST = ILST; INFO = 0; calls = [] })
+  unfolding left
+  stays p T ILST h = record { es = []; calls = refl; form = refl; follows = h }
+
+  module _ (T : Form) where
+    -- IFST and ILST, back at the first row of the block
+    first-of : (p : ℕ) → firstOf r n T (p + 1) ≡ firstBy (tests T) p + 1
+    unfolding firstOf firstBy
+    first-of p =
+        ap (λ (b : Bool). cond b (p + 1 - 1) (p + 1))
+        (guard (ltb 1 (p + 1)) (ltb 0 p) _ _ (guard-above 1 p) (λ h. let l = ltb-true 0 p h in ap not (zero-at T (p + 1) (p + 1 - 1) (p - 1) (omega arith) (omega arith))))
+        ∙ back (ltb 0 p) (tests T (p - 1)) (ltb-true 0 p)
+      where
+        back : (b c : Bool) → (b ≡ true → 0 < p) → cond (b && not c) (p + 1 - 1) (p + 1) ≡ cond (b && not c) (p - 1) p + 1
+        back true false h = let l = h refl in omega arith
+        back true true h = refl
+        back false c h = refl
+
+    -- NBF and NBL
+    block-of : (p : ℕ) → sizeOf r n T (p + 1) ≡ sizeBy n (tests T) p
+    unfolding sizeOf sizeBy
+    block-of p = rw (zero-at T (p + 1 + 1) (p + 1) p (omega arith) refl)
+
+    -- going down, ILST is updated to the goal
+    goal-of : (a b : ℕ) → a < b → updated (sizeBy n (tests T) a) (sizeBy n (tests T) b) (b + 1) ≡ goalDown (sizeBy n (tests T) a) (sizeBy n (tests T) b) b + 1
+    unfolding updated goalDown
+    goal-of a b l =
+        elim (size-cases n (tests T) a) [
+          | inl x ↦ elim (size-cases n (tests T) b) [ inl y ↦ rw (x .0, y .0) | inr y ↦ rw (x .0, y) (omega arith) ]
+          | inr x ↦ elim (size-cases n (tests T) b) [ inl y ↦ rw (x, y .0) | inr y ↦ rw (x, y) ]
+        ]
+
+    pub dtrexc-follows : (from to : ℕ) → from < n → to < n → Chosen (start n from to (tests T)) T (dtrexc r n T (from + 1) (to + 1))
+    unfolding dtrexc dtrexcBy start
+    dtrexc-follows from to l k = go (leb n 1) refl
+      where
+        Z : Zeros
+        Z = tests T
+
+        a : ℕ
+        a = firstBy Z from
+
+        b : ℕ
+        b = firstBy Z to
+
+        p : a < n
+        p = Next.first-in n Z from l
+
+        q : b < n
+        q = Next.first-in n Z to k
+
+        s : (1 ≤ sizeBy n Z a) × (sizeBy n Z a ≤ 2) × (Next.wide (sizeBy n Z a) ≡ sizeBy n Z a) × (a < n → a + sizeBy n Z a ≤ n)
+        s = Next.size-in n Z a
+
+        high : sizeBy n Z a ≤ 3
+        high = omega (arith, s .1)
+
+        go : (c : Bool) → leb n 1 ≡ c → Chosen (start n from to Z) T (dtrexc r n T (from + 1) (to + 1))
+        go true e =
+            let o = leb-true n 1 e in
+            rw (e, le-ltb a b (omega (arith, p, q))) (stays (upper b a (sizeBy n Z a) between) T (to + 1) (Next.up-there n Z b a (sizeBy n Z a) (le-ltb b a (omega (arith, p, q)))))
+        go false e =
+            rw (e, first-of from, first-of to, block-of a, block-of b)
+            (elim (ℕ-discrete a b) [
+              | yes x ↦ rw (eq-eqb (a + 1) (b + 1) (omega arith), le-ltb a b (omega arith)) (stays (upper b a (sizeBy n Z a) between) T (b + 1) (Next.up-there n Z b a (sizeBy n Z a) (le-ltb b a (omega arith))))
+              | no x ↦ rw (ne-eqb (a + 1) (b + 1) (omega arith), ltb-next a b)
+                  (elim (decLt a b) [
+                    | yes y ↦ let g = Next.goal-in n Z a to k y in
+                        let u = g .0 in
+                        let v = g .1 in
+                        rw (lt-ltb a b y, goal-of a b y) (chosen _ T _ (down-loop n _ T a (sizeBy n Z a) 0 [] (s .0) high (settled-size n Z a) (omega arith) (lt-ltb a _ u)))
+                    | no y ↦ rw (le-ltb a b (omega arith)) (chosen _ T _ (up-loop n b T a (sizeBy n Z a) 0 [] (s .0) high (settled-size n Z a) (omega (arith, p)) (lt-ltb b a (omega arith))))
+                  ])
+            ])

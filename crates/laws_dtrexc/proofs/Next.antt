@@ -300,7 +300,7 @@ module _ (n : ℕ) (Z W : Zeros) (same : (j : ℕ) → j + 1 < n → Z j ≡ W j
 -- ---- the start
 
 module _ (n : ℕ) (Z : Zeros) where
-  first-in : (p : ℕ) → p < n → firstBy Z p < n
+  pub first-in : (p : ℕ) → p < n → firstBy Z p < n
   unfolding firstBy
   first-in p l = go (ltb 0 p && not (Z (p - 1)))
     where
