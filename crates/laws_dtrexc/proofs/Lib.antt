@@ -14,3 +14,4 @@ pub mod Next
 pub mod Follow
 pub mod Ours
 pub mod Any
+pub mod Zeros

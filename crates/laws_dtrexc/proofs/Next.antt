@@ -257,7 +257,7 @@ next-stays n Z p i = stays-at n Z (p .goal) (p .here) (p .nbf) (p .down) (p .sta
 
 -- ---- only zeros below n are read
 
-guarded : (a x y : Bool) → (a ≡ true → x ≡ y) → (a && x) ≡ (a && y)
+pub guarded : (a x y : Bool) → (a ≡ true → x ≡ y) → (a && x) ≡ (a && y)
 guarded true x y h = h refl
 guarded false x y h = refl
 
