@@ -2,12 +2,12 @@
 use Prim.Native.Nat.{ℕ, zero, suc, _+_, _-_, _≤_, _<_}
 use native.Mathlib.Decide.{decLt, ℕ-discrete}
 use native.Mathlib.Omega.{arith}
-use mathlib.Core.Path.{_≡_, refl, sym, ap, subst, _∙_}
+use mathlib.Core.Path.{_≡_, refl, sym, ap, _∙_}
 use mathlib.Core.Logic.{inl, inr}
 use mathlib.Core.Bool.{Bool, true, false, not, _&&_, _||_, cond}
 use mathlib.Core.List.{List, [], _∷_, _++_, map, append-nil, append-assoc}
 use lib.Dec.{eqb, ltb, leb}
-use borrow.Author.Tests.{eqb-false, ltb-true, ltb-false, leb-true, lt-ltb, le-ltb, eq-eqb, ne-eqb}
+use borrow.Author.Tests.{eqb-false, ltb-true, leb-true, lt-ltb, le-ltb, eq-eqb, ne-eqb}
 use Rattle.model.specs.Move.{Exchange, goalDown}
 use Rattle.laws_dtrexc.specs.Dtrexc.{Routines, Call, Variables, Control, goes, returns, _>>=_, Returned, ilstHere, toRow, NE, call, callOrReturn, breaks, below, below3Past2, below3, label10, above, above3Past2, above3, label20, returned, updated, firstOf, sizeOf, dtrexcBy, dtrexc}
 use Rattle.laws_dtrexc.specs.Choice.{asCall}

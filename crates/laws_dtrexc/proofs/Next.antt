@@ -339,9 +339,9 @@ module _ (n : ℕ) (Z : Zeros) where
       let m = first-in to l in
       elim (size-cases n Z a) [
         | inl x ↦ elim (size-cases n Z b) [
-            | inl y ↦ let r = y .1 in rw (x .0, y .0) (k, omega arith)
-            | inr y ↦ let g = gap a to l (x .0) y in rw (x .0, y) (omega (arith, g), omega arith)
-          ]
+          | inl y ↦ let r = y .1 in rw (x .0, y .0) (k, omega arith)
+          | inr y ↦ let g = gap a to l (x .0) y in rw (x .0, y) (omega (arith, g), omega arith)
+        ]
         | inr x ↦ elim (size-cases n Z b) [ inl y ↦ let r = y .1 in rw (x, y .0) (omega arith, omega arith) | inr y ↦ rw (x, y) (k, omega arith) ]
       ]
 

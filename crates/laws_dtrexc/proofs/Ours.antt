@@ -8,12 +8,12 @@ use mathlib.Core.Bool.{Bool, true, false, cond}
 use mathlib.Core.List.{List, [], _∷_, _++_, append-nil, append-assoc}
 use lib.Dec.{eqb, ltb}
 use lib.Ieee.{Float, Format, ne}
-use borrow.Author.Tests.{ltb-true, ltb-false, lt-ltb, le-ltb, eq-eqb, ne-eqb, eqb-true}
+use borrow.Author.Tests.{ltb-true, lt-ltb, le-ltb, eq-eqb, ne-eqb}
 use Rattle.model.specs.Form.{zeroBelow, twoBlock}
 use Rattle.model.specs.Swaps.{unchanged, andThen}
-use Rattle.model.specs.Move.{Exchange, Moving, firstRow, sizeAt, sizeAbove, exchanging, arrived, landedWhole, downWhole, downPastTwo, downApart, downStep, downBy, upWhole, upPastTwo, upApart, upStep, upBy, goalDown, moveFrom, move}
+use Rattle.model.specs.Move.{Exchange, Moving, firstRow, sizeAt, sizeAbove, exchanging, arrived, landedWhole, downWhole, downPastTwo, downApart, downStep, downBy, upWhole, upPastTwo, upApart, upStep, upBy, moveFrom, move}
 use Rattle.laws_dtrexc.specs.Choice.{make}
-use Rattle.laws_dtrexc.specs.Zeros.{Zeros, firstBy, sizeBy, aboveBy, Place, Stage, between, pastOne, pastTwo, halfPast, takes, ended, rows, lower, upper, splits, next, start}
+use Rattle.laws_dtrexc.specs.Zeros.{firstBy, sizeBy, aboveBy, Place, between, pastOne, pastTwo, halfPast, takes, ended, rows, lower, upper, splits, next, start}
 use Rattle.laws_dtrexc.proofs.Next
 use Rattle.laws_dtrexc.proofs.Next.{size-cases, above-cases, Settled, settled-three, settled-split, settled-size, down-split, up-split, down-there, up-there, down-whole, down-apart, up-whole, up-apart, down-one, down-two, down-half, down-rest, up-one, up-two, up-half, up-rest}
 use Rattle.laws_dtrexc.proofs.Arrives.{first-le, goal-le}

@@ -1,9 +1,9 @@
 -- The claims: a move's exchanges, and dtrexc's over any form, are chosen by place and zeros; so they are the same as long as the zeros are. Assumes nothing.
-use Prim.Native.Nat.{ℕ, zero, suc, _+_, _-_, _≤_, _<_}
+use Prim.Native.Nat.{ℕ, zero, suc, _+_, _<_}
 use native.Mathlib.Nat.{add-sub-cancel}
 use native.Mathlib.Omega.{arith}
 use mathlib.Core.Path.{_≡_, refl, sym, ap, ap₂, subst, fun-ext, _∙_}
-use mathlib.Core.Option.{Option, Option·map}
+use mathlib.Core.Option.{Option·map}
 use mathlib.Core.List.{List, [], _∷_, map}
 use lib.Dec.{ltb}
 use lib.ListN.{take, getElem?}
@@ -12,10 +12,10 @@ use borrow.Author.Tests.{ltb-true, lt-ltb}
 use Rattle.model.specs.Form.{zeroBelow}
 use Rattle.model.specs.Swaps.{Change, unchanged, andThen}
 use Rattle.model.specs.Move.{Exchange, move}
-use Rattle.laws_dtrexc.specs.Dtrexc.{Routines, Call, Returned, dtrexc}
+use Rattle.laws_dtrexc.specs.Dtrexc.{Routines}
 use Rattle.laws_dtrexc.specs.Choice.{asCall, make, made}
-use Rattle.laws_dtrexc.specs.Zeros.{Zeros, zeros, zerosIn, Place, next, start, exchangeOf, reached, met, first, formAt, placeAt, left, Fine, metIn, run, firstIn, formIn, placeIn, SameZeros, ChoiceReadsZeros, SameZerosSameExchange, CallsMade, DtrexcReadsZeros, DtrexcSameZeros}
-use Rattle.laws_dtrexc.proofs.Next.{Fits, guarded, same-start, start-fits}
+use Rattle.laws_dtrexc.specs.Zeros.{Zeros, zeros, zerosIn, Place, next, start, exchangeOf, reached, met, first, left, Fine, metIn, run, firstIn, SameZeros, ChoiceReadsZeros, SameZerosSameExchange, CallsMade, DtrexcReadsZeros, DtrexcSameZeros}
+use Rattle.laws_dtrexc.proofs.Next.{guarded, same-start, start-fits}
 use Rattle.laws_dtrexc.proofs.Follow.{Follows, after, seen, Good, follows-at, follows-below, follows-both}
 use Rattle.laws_dtrexc.proofs.Ours
 use Rattle.laws_dtrexc.proofs.Any

@@ -37,14 +37,18 @@ aboveBy Z p = cond (leb 2 p && not (Z (p - 2))) 2 1
 
 -- ---- the place of a move, and the exchange that is next there
 
--- between two steps; or inside a step of a block that goes as two rows, of which one has passed a row, or a 2-block, and the other is to follow, or has passed the first row of that 2-block, which has split
+-- Where inside a step. A block that has split goes as two rows: one passes the next block, and then the other
 pub data Stage : Type 0 where
+  -- between two steps
   between : Stage
+  -- the one has passed a single row
   pastOne : Stage
+  -- the one has passed a 2-block, which may have split at that
   pastTwo : Stage
+  -- that 2-block has split, and the other has passed the first of its rows
   halfPast : Stage
 
--- the way, its goal, the moved block's row, and nbf: 1 for one row, 2 for a 2-block, 3 for one that has split and goes as two rows. After an exchange nbf is still that of before: whether the block has split shows in the zeros that then are
+-- The way, its goal, the moved block's row, and nbf: 1 for one row, 2 for a 2-block, 3 for one that has split. Whether a 2-block has split at the exchange just made is not known here: the zeros of the next moment show it
 pub record Place : Type 0 where
   pub down : Bool
   pub goal : ℕ
