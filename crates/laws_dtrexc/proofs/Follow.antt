@@ -32,6 +32,19 @@ module _ (n : ℕ) {X : Type 0} (z : X → Zeros) (by : X → Exchange → X) (b
   follows-as p q x [] e h = e ∙ h
   follows-as p q x (d ∷ es) e h = (h .0, e ∙ h .1, h .2)
 
+  -- the row of the place at the end
+  abbrev pub ends : Place → X → List Exchange → ℕ
+  ends p x es = reached n p (seen x es) .here
+
+  pub ends-more : (p q : Place) (x : X) (e : Exchange) (es : List Exchange) → next n p (z x) ≡ takes e q → ends p x (e ∷ es) ≡ ends q (by x e) es
+  unfolding reached placeOf
+  ends-more p q x e es h = ap (λ (m : Next). reached n (placeOf p m) (seen (by x e) es) .here) h
+
+  pub ends-as : (p q : Place) (x : X) (es : List Exchange) → p .here ≡ q .here → next n p (z x) ≡ next n q (z x) → Follows q x es → ends p x es ≡ ends q x es
+  unfolding reached
+  ends-as p q x [] k e h = k
+  ends-as p q x (d ∷ es) k e h = ends-more p (h .0) x d es (e ∙ h .1) ∙ sym (ends-more q (h .0) x d es (h .1))
+
   -- number k is the next at the place reached
   pub follows-at : (k : ℕ) (p : Place) (x : X) (es : List Exchange) → Follows p x es → Good x (take k es) → getElem? es k ≡ exchangeOf (next n (reached n p (seen x (take k es))) (z (after x (take k es))))
   unfolding reached placeOf exchangeOf
@@ -49,6 +62,15 @@ module _ (n : ℕ) {X : Type 0} (z w : X → Zeros) (by : X → Exchange → X) 
   follows-below p x (e ∷ es) i h =
       let q = h .0 in
       (q, sym (same-next n (z x) (w x) (same x) p i) ∙ h .1, λ g. follows-below q (by x e) es (subst (Stays n) (h .1) (next-stays n (z x) p i)) (h .2 g))
+
+  pub ends-below : ((x : X) (e : Exchange) → bad x e ≡ 0) → (p : Place) (x : X) (es : List Exchange) → Fits n p → Follows n z by bad p x es → ends n z by bad p x es ≡ ends n w by bad p x es
+  unfolding reached
+  ends-below fine p x [] i h = refl
+  ends-below fine p x (e ∷ es) i h =
+      let q = h .0 in
+      ends-more n z by bad p q x e es (h .1)
+      ∙ ends-below fine q (by x e) es (subst (Stays n) (h .1) (next-stays n (z x) p i)) (h .2 (fine x e))
+      ∙ sym (ends-more n w by bad p q x e es (sym (same-next n (z x) (w x) (same x) p i) ∙ h .1))
 
 -- two of them, of which the second never fails
 takes-place : (e d : Exchange) (p q : Place) → takes e p ≡ takes d q → p ≡ q

@@ -2,7 +2,7 @@
 use Prim.Native.Nat.{ℕ, zero, suc, _+_, _-_, _≤_, _<_}
 use native.Mathlib.Decide.{decLt, ℕ-discrete}
 use native.Mathlib.Omega.{arith}
-use mathlib.Core.Path.{_≡_, refl, sym, subst, _∙_}
+use mathlib.Core.Path.{_≡_, refl, sym, ap, subst, _∙_}
 use mathlib.Core.Logic.{inl, inr}
 use mathlib.Core.Bool.{Bool, true, false, cond}
 use mathlib.Core.List.{List, [], _∷_, _++_, append-nil, append-assoc}
@@ -13,11 +13,11 @@ use Rattle.model.specs.Form.{zeroBelow, twoBlock}
 use Rattle.model.specs.Swaps.{unchanged, andThen}
 use Rattle.model.specs.Move.{Exchange, Moving, firstRow, sizeAt, sizeAbove, exchanging, arrived, landedWhole, downWhole, downPastTwo, downApart, downStep, downBy, upWhole, upPastTwo, upApart, upStep, upBy, moveFrom, move}
 use Rattle.laws_dtrexc.specs.Choice.{make}
-use Rattle.laws_dtrexc.specs.Zeros.{firstBy, sizeBy, aboveBy, Place, between, pastOne, pastTwo, halfPast, takes, ended, rows, lower, upper, splits, next, start}
+use Rattle.laws_dtrexc.specs.Zeros.{firstBy, sizeBy, aboveBy, Place, between, pastOne, pastTwo, halfPast, takes, ended, rows, lower, upper, splits, next, start, reached}
 use Rattle.laws_dtrexc.proofs.Next
 use Rattle.laws_dtrexc.proofs.Next.{size-cases, above-cases, Settled, settled-three, settled-split, settled-size, down-split, up-split, down-there, up-there, down-whole, down-apart, up-whole, up-apart, down-one, down-two, down-half, down-rest, up-one, up-two, up-half, up-rest}
 use Rattle.laws_dtrexc.proofs.Arrives.{first-le, goal-le}
-use Rattle.laws_dtrexc.proofs.Follow.{Follows, follows-as}
+use Rattle.laws_dtrexc.proofs.Follow.{Follows, follows-as, ends, ends-more, ends-as}
 
 module _ (f : Format) (ld n : ℕ) where
   abbrev pub leaves : List Float → Exchange → List Float
@@ -45,25 +45,33 @@ module _ (f : Format) (ld n : ℕ) where
   some-above : (t : List Float) (p : ℕ) → 1 ≤ sizeAbove f ld t p
   some-above t p = subst (λ (k : ℕ). 1 ≤ k) (above-is t p) (Next.some-above (zeroBelow f ld t) p)
 
-  -- after the exchanges l all of them are r, and what came on follows from the place p and the form t on
-  pub record Rest (l r : List Exchange) (p : Place) (t : List Float) : Type 0 where
+  -- a move that had made the exchanges l is r at its end, and what came on follows from the place p and the form t on
+  pub record Rest (l : List Exchange) (r : Moving) (p : Place) (t : List Float) : Type 0 where
     pub es : List Exchange
-    pub all : r ≡ l ++ es
+    pub all : r .exchanges ≡ l ++ es
     pub follows : Ours p t es
+    pub here : ends n (zeroBelow f ld) leaves (λ _ _. 0) p t es ≡ r .here
 
-  more : (l r : List Exchange) (e : Exchange) (p q : Place) (t : List Float) → next n p (zeroBelow f ld t) ≡ takes e q → Rest (l ++ (e ∷ [])) r q (leaves t e) → Rest l r p t
-  more l r e p q t h k = record { es = e ∷ k .es; all = k .all ∙ append-assoc l (e ∷ []) (k .es); follows = (q, h, λ _. k .follows) }
+  more : (l : List Exchange) (r : Moving) (e : Exchange) (p q : Place) (t : List Float) → next n p (zeroBelow f ld t) ≡ takes e q → Rest (l ++ (e ∷ [])) r q (leaves t e) → Rest l r p t
+  more l r e p q t h k = record { es = e ∷ k .es; all = k .all ∙ append-assoc l (e ∷ []) (k .es); follows = (q, h, λ _. k .follows); here = ends-more n (zeroBelow f ld) leaves (λ _ _. 0) p q t e (k .es) h ∙ k .here }
 
-  over : (l : List Exchange) (p : Place) (t : List Float) → next n p (zeroBelow f ld t) ≡ ended → Rest l l p t
-  over l p t h = record { es = []; all = sym (append-nil l); follows = h }
+  over : (m : Moving) (p : Place) → p .here ≡ m .here → next n p (zeroBelow f ld (m .change .form)) ≡ ended → Rest (m .exchanges) m p (m .change .form)
+  unfolding reached
+  over m p e h = record { es = []; all = sym (append-nil (m .exchanges)); follows = h; here = e }
 
-  rest-as : (l r : List Exchange) (p q : Place) (t : List Float) → next n p (zeroBelow f ld t) ≡ next n q (zeroBelow f ld t) → Rest l r q t → Rest l r p t
-  rest-as l r p q t e k = record { es = k .es; all = k .all; follows = follows-as n (zeroBelow f ld) leaves (λ _ _. 0) p q t (k .es) e (k .follows) }
+  rest-as : (l : List Exchange) (r : Moving) (p q : Place) (t : List Float) → p .here ≡ q .here → next n p (zeroBelow f ld t) ≡ next n q (zeroBelow f ld t) → Rest l r q t → Rest l r p t
+  rest-as l r p q t i e k =
+      record {
+        es = k .es;
+        all = k .all;
+        follows = follows-as n (zeroBelow f ld) leaves (λ _ _. 0) p q t (k .es) e (k .follows);
+        here = ends-as n (zeroBelow f ld) leaves (λ _ _. 0) p q t (k .es) i e (k .follows) ∙ k .here;
+      }
 
   abbrev Ready : Moving → Type 0
   Ready m = Settled (zeroBelow f ld (m .change .form)) (m .here) (m .nbf)
 
-  module _ (goal : ℕ) (G : Moving → List Exchange) where
+  module _ (goal : ℕ) (G : Moving → Moving) where
     -- ---- down
 
     abbrev below : Moving → Place
@@ -83,7 +91,7 @@ module _ (f : Format) (ld n : ℕ) where
         let u = leaves t (rows h b k) in
         let i = some-size t (h + b) in
         more _ _ (rows h b k) (below m) (lower goal (h + k) b between) t (down-whole n (zeroBelow f ld t) goal h b s l e k (size-is t (h + b)))
-        (rest-as _ _ _ (lower goal (h + k) (splits (zeroBelow f ld u) (h + k) b) between) u (down-split n (zeroBelow f ld u) goal (h + k) b)
+        (rest-as _ _ _ (lower goal (h + k) (splits (zeroBelow f ld u) (h + k) b) between) u refl (down-split n (zeroBelow f ld u) goal (h + k) b)
         (c (landedWhole f ld (h + k) (exchanging f ld n h b k m)) (settled-split (zeroBelow f ld u) (h + k) b) (omega arith)))
 
     -- past a 2-block
@@ -155,7 +163,7 @@ module _ (f : Format) (ld n : ℕ) where
         let i = some-above t h in
         let p = ltb-true goal h l in
         more _ _ (rows (h - k) k b) (above m) (upper goal (h - k) b between) t (up-whole n (zeroBelow f ld t) goal h b s l e k (above-is t h))
-        (rest-as _ _ _ (upper goal (h - k) (splits (zeroBelow f ld u) (h - k) b) between) u (up-split n (zeroBelow f ld u) goal (h - k) b)
+        (rest-as _ _ _ (upper goal (h - k) (splits (zeroBelow f ld u) (h - k) b) between) u refl (up-split n (zeroBelow f ld u) goal (h - k) b)
         (c (landedWhole f ld (h - k) (exchanging f ld n (h - k) k b m)) (settled-split (zeroBelow f ld u) (h - k) b) (omega arith)))
 
     past-up : (m : Moving) → eqb (m .nbf) 3 ≡ true → 0 < m .here → Up (m .here) → Rest (m .exchanges) (G (upPastTwo f ld n m)) (upper goal (m .here) (m .nbf) pastTwo) (m .change .form)
@@ -210,22 +218,22 @@ module _ (f : Format) (ld n : ℕ) where
 
   -- ---- the loops
 
-  down-loop : (k goal : ℕ) (m : Moving) → Ready m → goal ≤ m .here + k → Rest (m .exchanges) (downBy k f ld n goal m .exchanges) (lower goal (m .here) (m .nbf) between) (m .change .form)
+  down-loop : (k goal : ℕ) (m : Moving) → Ready m → goal ≤ m .here + k → Rest (m .exchanges) (downBy k f ld n goal m) (lower goal (m .here) (m .nbf) between) (m .change .form)
   unfolding downBy
-  down-loop zero goal m s g = over _ _ _ (down-there n _ goal (m .here) (m .nbf) (le-ltb (m .here) goal (omega arith)))
+  down-loop zero goal m s g = over m _ refl (down-there n _ goal (m .here) (m .nbf) (le-ltb (m .here) goal (omega arith)))
   down-loop (suc k) goal m s g =
       elim (decLt (m .here) goal) [
-        | yes p ↦ let l = lt-ltb (m .here) goal p in rw l (once-down goal (λ x. downBy k f ld n goal x .exchanges) m s l (λ x r q. down-loop k goal x r (omega arith)))
-        | no p ↦ let l = le-ltb (m .here) goal (omega arith) in rw l (over _ _ _ (down-there n _ goal (m .here) (m .nbf) l))
+        | yes p ↦ let l = lt-ltb (m .here) goal p in rw l (once-down goal (downBy k f ld n goal) m s l (λ x r q. down-loop k goal x r (omega arith)))
+        | no p ↦ let l = le-ltb (m .here) goal (omega arith) in rw l (over m _ refl (down-there n _ goal (m .here) (m .nbf) l))
       ]
 
-  up-loop : (k goal : ℕ) (m : Moving) → Ready m → m .here ≤ goal + k → Rest (m .exchanges) (upBy k f ld n goal m .exchanges) (upper goal (m .here) (m .nbf) between) (m .change .form)
+  up-loop : (k goal : ℕ) (m : Moving) → Ready m → m .here ≤ goal + k → Rest (m .exchanges) (upBy k f ld n goal m) (upper goal (m .here) (m .nbf) between) (m .change .form)
   unfolding upBy
-  up-loop zero goal m s g = over _ _ _ (up-there n _ goal (m .here) (m .nbf) (le-ltb goal (m .here) (omega arith)))
+  up-loop zero goal m s g = over m _ refl (up-there n _ goal (m .here) (m .nbf) (le-ltb goal (m .here) (omega arith)))
   up-loop (suc k) goal m s g =
       elim (decLt goal (m .here)) [
-        | yes p ↦ let l = lt-ltb goal (m .here) p in rw l (once-up goal (λ x. upBy k f ld n goal x .exchanges) m s l (λ x r q. up-loop k goal x r (omega arith)))
-        | no p ↦ let l = le-ltb goal (m .here) (omega arith) in rw l (over _ _ _ (up-there n _ goal (m .here) (m .nbf) l))
+        | yes p ↦ let l = lt-ltb goal (m .here) p in rw l (once-up goal (upBy k f ld n goal) m s l (λ x r q. up-loop k goal x r (omega arith)))
+        | no p ↦ let l = le-ltb goal (m .here) (omega arith) in rw l (over m _ refl (up-there n _ goal (m .here) (m .nbf) l))
       ]
 
   -- ---- the whole
@@ -237,10 +245,16 @@ module _ (f : Format) (ld n : ℕ) where
   ready : (t : List Float) (a : ℕ) → Ready (begins t a)
   ready t a = subst (λ (b : ℕ). Settled (zeroBelow f ld t) a b) (size-is t a) (settled-size n (zeroBelow f ld t) a)
 
-  all-follows : (r : List Exchange) (p : Place) (t : List Float) → Rest [] r p t → Ours p t r
-  all-follows r p t k = subst (Ours p t) (sym (k .all)) (k .follows)
+  -- from its start to its end
+  pub record Whole (p : Place) (t : List Float) (m : Moving) : Type 0 where
+    pub follows : Ours p t (m .exchanges)
+    pub here : ends n (zeroBelow f ld) leaves (λ _ _. 0) p t (m .exchanges) ≡ m .here
 
-  pub move-follows : (from to : ℕ) (t : List Float) → from < n → to < n → Ours (start n from to (zeroBelow f ld t)) t (move f ld n from to t .exchanges)
+  whole : (m : Moving) (p : Place) (t : List Float) → Rest [] m p t → Whole p t m
+  whole m p t k =
+      record { follows = subst (Ours p t) (sym (k .all)) (k .follows); here = ap (λ (es : List Exchange). ends n (zeroBelow f ld) leaves (λ _ _. 0) p t es) (k .all) ∙ k .here }
+
+  pub move-follows : (from to : ℕ) (t : List Float) → from < n → to < n → Whole (start n from to (zeroBelow f ld t)) t (move f ld n from to t)
   unfolding move moveFrom start
   move-follows from to t l k =
       let Z = zeroBelow f ld t in
@@ -251,10 +265,10 @@ module _ (f : Format) (ld n : ℕ) where
       let g = goal-le f ld n t a b in
       rw (first-is t from, first-is t to, size-is t a, size-is t b)
       (elim (ℕ-discrete a b) [
-        | yes e ↦ rw (eq-eqb a b e, le-ltb a b (omega arith)) (up-there n Z b a (sizeAt f ld n t a) (le-ltb b a (omega arith)))
+        | yes e ↦ rw (eq-eqb a b e, le-ltb a b (omega arith)) (whole (begins t a) _ t (over (begins t a) _ refl (up-there n Z b a (sizeAt f ld n t a) (le-ltb b a (omega arith)))))
         | no e ↦ rw (ne-eqb a b e)
             (elim (decLt a b) [
-              | yes q ↦ rw (lt-ltb a b q) (all-follows _ _ t (down-loop n _ (begins t a) (ready t a) (omega arith)))
-              | no q ↦ rw (le-ltb a b (omega arith)) (all-follows _ _ t (up-loop n b (begins t a) (ready t a) (omega arith)))
+              | yes q ↦ rw (lt-ltb a b q) (whole _ _ t (down-loop n _ (begins t a) (ready t a) (omega arith)))
+              | no q ↦ rw (le-ltb a b (omega arith)) (whole _ _ t (up-loop n b (begins t a) (ready t a) (omega arith)))
             ])
       ])

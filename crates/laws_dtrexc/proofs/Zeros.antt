@@ -14,9 +14,9 @@ use Rattle.model.specs.Swaps.{Change, unchanged, andThen}
 use Rattle.model.specs.Move.{Exchange, move}
 use Rattle.laws_dtrexc.specs.Dtrexc.{Routines}
 use Rattle.laws_dtrexc.specs.Choice.{asCall, make, made}
-use Rattle.laws_dtrexc.specs.Zeros.{Zeros, zeros, zerosIn, Place, next, start, exchangeOf, reached, met, first, left, Fine, metIn, run, firstIn, SameZeros, ChoiceReadsZeros, SameZerosSameExchange, CallsMade, DtrexcReadsZeros, DtrexcSameZeros}
+use Rattle.laws_dtrexc.specs.Zeros.{Zeros, zeros, zerosIn, Place, next, start, exchangeOf, reached, met, first, left, Fine, metIn, run, firstIn, SameZeros, ChoiceReadsZeros, PlaceLands, SameZerosSameExchange, CallsMade, DtrexcReadsZeros, DtrexcSameZeros}
 use Rattle.laws_dtrexc.proofs.Next.{guarded, same-start, start-fits}
-use Rattle.laws_dtrexc.proofs.Follow.{Follows, after, seen, Good, follows-at, follows-below, follows-both}
+use Rattle.laws_dtrexc.proofs.Follow.{Follows, after, seen, Good, follows-at, follows-below, ends-below, follows-both}
 use Rattle.laws_dtrexc.proofs.Ours
 use Rattle.laws_dtrexc.proofs.Any
 
@@ -60,12 +60,21 @@ module _ (f : Format) (ld n : ℕ) where
   move-chosen : (from to : ℕ) (t : List Float) → from < n → to < n → Follows n (zeros f ld n) by (λ _ _. 0) (start n from to (zeros f ld n t)) t (move f ld n from to t .exchanges)
   move-chosen from to t l k =
       subst (λ p. Follows n (zeros f ld n) by (λ _ _. 0) p t (move f ld n from to t .exchanges)) (same-start n (zeroBelow f ld t) (zeros f ld n t) (inside t) from to l k)
-      (follows-below n (zeroBelow f ld) (zeros f ld n) by (λ _ _. 0) inside _ t (move f ld n from to t .exchanges) (start-fits n (zeroBelow f ld t) from to l k) (Ours.move-follows f ld n from to t l k))
+      (follows-below n (zeroBelow f ld) (zeros f ld n) by (λ _ _. 0) inside _ t (move f ld n from to t .exchanges) (start-fits n (zeroBelow f ld t) from to l k) (Ours.move-follows f ld n from to t l k .follows))
 
 pub choice-reads-zeros : ChoiceReadsZeros
 choice-reads-zeros f ld n from to t l k i =
     let es = first f ld n from to t i in
     rw (made-is f ld n (unchanged t) es, met-is f ld n t es) (follows-at n (zeros f ld n) (by f ld n) (λ _ _. 0) i _ t (move f ld n from to t .exchanges) (move-chosen f ld n from to t l k) (all-good f ld n t es))
+
+pub place-lands : PlaceLands
+place-lands f ld n from to t l k =
+    let es = move f ld n from to t .exchanges in
+    let w = Ours.move-follows f ld n from to t l k in
+    ap (λ (Zs : List Zeros). reached n (start n from to (zeros f ld n t)) Zs .here) (met-is f ld n t es)
+    ∙ ap (λ (p : Place). reached n p (seen n (zeros f ld n) (by f ld n) (λ _ _. 0) t es) .here) (sym (same-start n (zeroBelow f ld t) (zeros f ld n t) (inside f ld n t) from to l k))
+    ∙ sym (ends-below n (zeroBelow f ld) (zeros f ld n) (by f ld n) (λ _ _. 0) (inside f ld n) (λ _ _. refl) _ t es (start-fits n (zeroBelow f ld t) from to l k) (w .follows))
+    ∙ w .here
 
 zeros-same : (n : ℕ) (f : Format) (ld : ℕ) (t : List Float) (g : Format) (ld′ : ℕ) (u : List Float) → ((j : ℕ) → j + 1 < n → zeroBelow f ld t j ≡ zeroBelow g ld′ u j) → zeros f ld n t ≡ zeros g ld′ n u
 unfolding zeros

@@ -147,6 +147,12 @@ ChoiceReadsZeros =
     (f : Format) (ld n from to : ℕ) (t : List Float) → from < n → to < n → (k : ℕ)
     → getElem? (move f ld n from to t .exchanges) k ≡ exchangeOf (next n (placeAt f ld n from to t k) (zeros f ld n (formAt f ld n from to t k)))
 
+-- That place is the move's: at the end it is in the row that the move landed on
+abbrev pub PlaceLands : Type 0
+PlaceLands =
+    (f : Format) (ld n from to : ℕ) (t : List Float) → from < n → to < n
+    → (let m = move f ld n from to t in reached n (start n from to (zeros f ld n t)) (met f ld n t (m .exchanges)) .here ≡ m .here)
+
 -- So two moves of any two forms, whatever they have done before, that are at the same place with zeros at the same places make the same exchange next, or both have ended
 abbrev pub SameZerosSameExchange : Type 0
 SameZerosSameExchange =
