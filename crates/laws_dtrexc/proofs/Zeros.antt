@@ -65,7 +65,8 @@ module _ (f : Format) (ld n : ℕ) where
 pub choice-reads-zeros : ChoiceReadsZeros
 choice-reads-zeros f ld n from to t l k i =
     let es = first f ld n from to t i in
-    rw (made-is f ld n (unchanged t) es, met-is f ld n t es) (follows-at n (zeros f ld n) (by f ld n) (λ _ _. 0) i _ t (move f ld n from to t .exchanges) (move-chosen f ld n from to t l k) (all-good f ld n t es))
+    follows-at n (zeros f ld n) (by f ld n) (λ _ _. 0) i _ t (move f ld n from to t .exchanges) (move-chosen f ld n from to t l k) (all-good f ld n t es)
+    ∙ ap₂ (λ (Zs : List Zeros) (u : List Float). exchangeOf (next n (reached n (start n from to (zeros f ld n t)) Zs) (zeros f ld n u))) (sym (met-is f ld n t es)) (sym (made-is f ld n (unchanged t) es))
 
 pub place-lands : PlaceLands
 place-lands f ld n from to t l k =
