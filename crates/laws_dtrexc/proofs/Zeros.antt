@@ -14,7 +14,7 @@ use Rattle.model.specs.Swaps.{Change, unchanged, andThen}
 use Rattle.model.specs.Move.{Exchange, move}
 use Rattle.laws_dtrexc.specs.Dtrexc.{Routines}
 use Rattle.laws_dtrexc.specs.Choice.{asCall, make, made}
-use Rattle.laws_dtrexc.specs.Zeros.{Zeros, zeros, zerosIn, Place, next, start, exchangeOf, reached, met, first, left, Fine, metIn, run, firstIn, SameZeros, ChoiceReadsZeros, PlaceLands, SameZerosSameExchange, CallsMade, DtrexcReadsZeros, DtrexcSameZeros}
+use Rattle.laws_dtrexc.specs.Zeros.{Zeros, zeros, zerosIn, Place, next, start, exchangeOf, reached, met, before, left, Fine, metIn, run, beforeIn, SameZeros, ChoiceReadsZeros, PlaceLands, SameZerosSameExchange, CallsMade, DtrexcReadsZeros, DtrexcSameZeros}
 use Rattle.laws_dtrexc.proofs.Next.{guarded, same-start, start-fits}
 use Rattle.laws_dtrexc.proofs.Follow.{Follows, after, seen, Good, follows-at, follows-below, ends-below, follows-both}
 use Rattle.laws_dtrexc.proofs.Ours
@@ -64,7 +64,7 @@ module _ (f : Format) (ld n : ℕ) where
 
 pub choice-reads-zeros : ChoiceReadsZeros
 choice-reads-zeros f ld n from to t l k i =
-    let es = first f ld n from to t i in
+    let es = before f ld n from to t i in
     follows-at n (zeros f ld n) (by f ld n) (λ _ _. 0) i _ t (move f ld n from to t .exchanges) (move-chosen f ld n from to t l k) (all-good f ld n t es)
     ∙ ap₂ (λ (Zs : List Zeros) (u : List Float). exchangeOf (next n (reached n (start n from to (zeros f ld n t)) Zs) (zeros f ld n u))) (sym (met-is f ld n t es)) (sym (made-is f ld n (unchanged t) es))
 
@@ -126,7 +126,7 @@ module _ {Form : Type 0} (r : Routines Form) (n : ℕ) where
     unfolding all
     all-calls = run-chosen .calls
 
-    first-calls : (i : ℕ) → firstIn r n from to T i ≡ map asCall (take i all)
+    first-calls : (i : ℕ) → beforeIn r n from to T i ≡ map asCall (take i all)
     first-calls i = ap (take i) all-calls ∙ map-take asCall i all
 
     run-follows : Follows n (zerosIn r n) theirs fails (start n from to (zerosIn r n T)) T all

@@ -130,16 +130,16 @@ unfoldable pub met : Format → ℕ → ℕ → List Float → List Exchange →
 met f ld n t [] = []
 met f ld n t (e ∷ es) = zeros f ld n t ∷ met f ld n (make f ld n e t .form) es
 
--- a move's beginning
-abbrev pub first : Format → ℕ → ℕ → ℕ → ℕ → List Float → ℕ → List Exchange
-first f ld n from to t k = take k (move f ld n from to t .exchanges)
+-- the exchanges before it
+abbrev pub before : Format → ℕ → ℕ → ℕ → ℕ → List Float → ℕ → List Exchange
+before f ld n from to t k = take k (move f ld n from to t .exchanges)
 
--- the form then, and the place
+-- the form then, and the place of the move
 abbrev pub formAt : Format → ℕ → ℕ → ℕ → ℕ → List Float → ℕ → List Float
-formAt f ld n from to t k = made f ld n (unchanged t) (first f ld n from to t k) .form
+formAt f ld n from to t k = made f ld n (unchanged t) (before f ld n from to t k) .form
 
 abbrev pub placeAt : Format → ℕ → ℕ → ℕ → ℕ → List Float → ℕ → Place
-placeAt f ld n from to t k = reached n (start n from to (zeros f ld n t)) (met f ld n t (first f ld n from to t k))
+placeAt f ld n from to t k = reached n (start n from to (zeros f ld n t)) (met f ld n t (before f ld n from to t k))
 
 -- The choice of an exchange reads only which subdiagonal entries are zero at that moment: number k of a move, or that there is none, is what is next at its place with the zeros of the form as it then is. After a decline too
 abbrev pub ChoiceReadsZeros : Type 0
@@ -183,14 +183,14 @@ module _ {Form : Type 0} (r : Routines Form) where
     abbrev pub run : ℕ → ℕ → Form → Returned Form
     run from to T = dtrexc r n T (from + 1) (to + 1)
 
-    abbrev pub firstIn : ℕ → ℕ → Form → ℕ → List Call
-    firstIn from to T k = take k (run from to T .calls)
+    abbrev pub beforeIn : ℕ → ℕ → Form → ℕ → List Call
+    beforeIn from to T k = take k (run from to T .calls)
 
     abbrev pub formIn : ℕ → ℕ → Form → ℕ → Form
-    formIn from to T k = left T (firstIn from to T k)
+    formIn from to T k = left T (beforeIn from to T k)
 
     abbrev pub placeIn : ℕ → ℕ → Form → ℕ → Place
-    placeIn from to T k = reached n (start n from to (zerosIn r n T)) (metIn T (firstIn from to T k))
+    placeIn from to T k = reached n (start n from to (zerosIn r n T)) (metIn T (beforeIn from to T k))
 
 -- Its calls are what was done to the form
 abbrev pub CallsMade : Type 1
@@ -200,7 +200,7 @@ CallsMade =
 -- dtrexc's choice is ours at the same place and with the same subdiagonal zeros, until one fails
 abbrev pub DtrexcReadsZeros : Type 1
 DtrexcReadsZeros =
-    (Form : Type 0) (r : Routines Form) (n from to : ℕ) (T : Form) → from < n → to < n → (k : ℕ) → Fine r T (firstIn r n from to T k)
+    (Form : Type 0) (r : Routines Form) (n from to : ℕ) (T : Form) → from < n → to < n → (k : ℕ) → Fine r T (beforeIn r n from to T k)
     → getElem? (run r n from to T .calls) k ≡ Option·map asCall (exchangeOf (next n (placeIn r n from to T k) (zerosIn r n (formIn r n from to T k))))
 
 -- ---- dtrexc and our move beside each other
@@ -214,5 +214,5 @@ abbrev pub DtrexcSameZeros : Type 1
 DtrexcSameZeros =
     (Form : Type 0) (r : Routines Form) (T : Form) (f : Format) (ld n from to : ℕ) (t : List Float) → from < n → to < n → (k : ℕ)
     → ((i : ℕ) → i ≤ k → SameZeros r n (formIn r n from to T i) f ld (formAt f ld n from to t i))
-    → Fine r T (firstIn r n from to T k)
+    → Fine r T (beforeIn r n from to T k)
     → getElem? (run r n from to T .calls) k ≡ getElem? (map asCall (move f ld n from to t .exchanges)) k
