@@ -11,12 +11,12 @@ use borrow.Author.Tests.{eqb-false, ltb-true, leb-true, lt-ltb, le-ltb, eq-eqb, 
 use Rattle.model.specs.Move.{Exchange, goalDown}
 use Rattle.laws_dtrexc.specs.Dtrexc.{Routines, Call, Variables, Control, goes, returns, _>>=_, Returned, ilstHere, toRow, NE, call, callOrReturn, breaks, below, below3Past2, below3, label10, above, above3Past2, above3, label20, returned, updated, firstOf, sizeOf, dtrexcBy, dtrexc}
 use Rattle.laws_dtrexc.specs.Choice.{asCall}
-use Rattle.laws_dtrexc.specs.Zeros.{Zeros, firstBy, sizeBy, aboveBy, Place, between, pastOne, pastTwo, halfPast, takes, ended, rows, lower, upper, splits, next, start, left}
+use Rattle.laws_dtrexc.specs.Zeros.{Zeros, firstBy, sizeBy, aboveBy, Place, between, pastOne, pastTwo, halfPast, takes, ended, rows, lower, upper, splits, next, start, reached, left}
 use Rattle.laws_dtrexc.proofs.Seen.{guard, guard-above, ltb-next}
 use Rattle.laws_dtrexc.proofs.Kept.{kind}
 use Rattle.laws_dtrexc.proofs.Next
 use Rattle.laws_dtrexc.proofs.Next.{Settled, settled-three, settled-split, settled-size, split-in, size-cases, above-cases}
-use Rattle.laws_dtrexc.proofs.Follow.{Follows, follows-as}
+use Rattle.laws_dtrexc.proofs.Follow.{Follows, Good, follows-as, ends, ends-more, ends-as}
 
 module _ {Form : Type 0} (r : Routines Form) (n : ℕ) where
   abbrev pub tests : Form → Zeros
@@ -41,17 +41,32 @@ module _ {Form : Type 0} (r : Routines Form) (n : ℕ) where
     pub calls : returned c .calls ≡ cs ++ map asCall es
     pub form : returned c .T ≡ left r T (map asCall es)
     pub follows : Theirs p T es
+    pub landed : Good n tests leaves fails T es → returned c .ILST ≡ ends n tests leaves fails p T es + 1
 
   more : (p q : Place) (T : Form) (cs : List Call) (e : Exchange) (c : Control Form) → next n p (tests T) ≡ takes e q → Runs q (leaves T e) (cs ++ (asCall e ∷ [])) c → Runs p T cs c
   unfolding left
-  more p q T cs e c h k = record { es = e ∷ k .es; calls = k .calls ∙ append-assoc cs (asCall e ∷ []) (map asCall (k .es)); form = k .form; follows = (q, h, λ _. k .follows) }
+  more p q T cs e c h k =
+      record {
+        es = e ∷ k .es;
+        calls = k .calls ∙ append-assoc cs (asCall e ∷ []) (map asCall (k .es));
+        form = k .form;
+        follows = (q, h, λ _. k .follows);
+        landed = λ g. k .landed (g .1) ∙ ap (λ (x : ℕ). x + 1) (sym (ends-more n tests leaves fails p q T e (k .es) h));
+      }
 
-  over : (p : Place) (v : Variables Form) → next n p (tests (v .T)) ≡ ended → Runs p (v .T) (v .calls) (goes v)
-  unfolding left returned
-  over p v h = record { es = []; calls = sym (append-nil (v .calls)); form = refl; follows = h }
+  over : (p : Place) (v : Variables Form) → v .HERE ≡ p .here + 1 → next n p (tests (v .T)) ≡ ended → Runs p (v .T) (v .calls) (goes v)
+  unfolding left returned reached
+  over p v e h = record { es = []; calls = sym (append-nil (v .calls)); form = refl; follows = h; landed = λ _. e }
 
-  runs-as : (p q : Place) (T : Form) (cs : List Call) (c : Control Form) → next n p (tests T) ≡ next n q (tests T) → Runs q T cs c → Runs p T cs c
-  runs-as p q T cs c e k = record { es = k .es; calls = k .calls; form = k .form; follows = follows-as n tests leaves fails p q T (k .es) e (k .follows) }
+  runs-as : (p q : Place) (T : Form) (cs : List Call) (c : Control Form) → p .here ≡ q .here → next n p (tests T) ≡ next n q (tests T) → Runs q T cs c → Runs p T cs c
+  runs-as p q T cs c i e k =
+      record {
+        es = k .es;
+        calls = k .calls;
+        form = k .form;
+        follows = follows-as n tests leaves fails p q T (k .es) e (k .follows);
+        landed = λ g. k .landed g ∙ ap (λ (x : ℕ). x + 1) (sym (ends-as n tests leaves fails p q T (k .es) i e (k .follows)));
+      }
 
   -- a call that is not asked how it went
   called : (e : Exchange) (J1 : ℕ) → J1 ≡ e .row + 1 → (T : Form) (goal h b i : ℕ) (cs : List Call) → call r J1 (e .n1) (e .n2) (vars T goal h b i cs) ≡ vars (leaves T e) goal h b (fails T e) (cs ++ (asCall e ∷ []))
@@ -69,7 +84,7 @@ module _ {Form : Type 0} (r : Routines Form) (n : ℕ) where
 
       go : (b : Bool) → eqb (fails T e) 0 ≡ b → Runs p T cs ((cond b (goes w) (returns (ilstHere w)) >>= F) >>= K)
       go true z = more p q T cs e (F w >>= K) y k
-      go false z = record { es = e ∷ []; calls = refl; form = refl; follows = (q, y, λ g. absurd (eqb-false (fails T e) 0 z g)) }
+      go false z = record { es = e ∷ []; calls = refl; form = refl; follows = (q, y, λ g. absurd (eqb-false (fails T e) 0 z g)); landed = λ g. absurd (eqb-false (fails T e) 0 z (g .0)) }
 
   -- ---- its tests are those of the zeros
 
@@ -120,7 +135,7 @@ module _ {Form : Type 0} (r : Routines Form) (n : ℕ) where
           rw (size-of T (h + 1 + b + 1) (h + 1 + b) (h + b) (omega arith) (omega arith))
           (calling (lower goal h b between) (lower goal (h + k) b between) d (h + 1) refl T goal h b i cs (λ w. goes (breaks r (toRow (w .HERE + k) w))) K
           (Next.down-whole n (tests T) goal h b s l e k refl)
-          (runs-as _ (lower goal (h + k) (splits (tests U) (h + k) b) between) U _ _ (Next.down-split n (tests U) goal (h + k) b)
+          (runs-as _ (lower goal (h + k) (splits (tests U) (h + k) b) between) U _ _ refl (Next.down-split n (tests U) goal (h + k) b)
           (rw (breaks-at U goal h b (fails T d) (cs ++ (asCall d ∷ [])) (h + 1 + k) (h + k) (omega arith))
           (c U (h + k) (splits (tests U) (h + k) b) (fails T d) _ (p .0) (p .1) (settled-split (tests U) (h + k) b) (omega (arith, Next.some-size n (tests T) (h + b)))))))
 
@@ -196,7 +211,7 @@ module _ {Form : Type 0} (r : Routines Form) (n : ℕ) where
           rw (above-of T h)
           (calling (upper goal h b between) (upper goal (h - k) b between) d (h + 1 - k) (omega arith) T goal h b i cs (λ w. goes (breaks r (toRow (w .HERE - k) w))) K
           (Next.up-whole n (tests T) goal h b s l e k refl)
-          (runs-as _ (upper goal (h - k) (splits (tests U) (h - k) b) between) U _ _ (Next.up-split n (tests U) goal (h - k) b)
+          (runs-as _ (upper goal (h - k) (splits (tests U) (h - k) b) between) U _ _ refl (Next.up-split n (tests U) goal (h - k) b)
           (rw (breaks-at U goal h b (fails T d) (cs ++ (asCall d ∷ [])) (h + 1 - k) (h - k) (omega arith))
           (c U (h - k) (splits (tests U) (h - k) b) (fails T d) _ (p .0) (p .1) (settled-split (tests U) (h - k) b) (omega arith)))))
 
@@ -267,7 +282,7 @@ module _ {Form : Type 0} (r : Routines Form) (n : ℕ) where
     where
       go : (x : Bool) → ltb h goal ≡ x → Runs (lower goal h b between) T cs (cond x (label10 r n k (vars T goal h b i cs)) (goes (vars T goal h b i cs)))
       go true e = again e
-      go false e = over _ (vars T goal h b i cs) (Next.down-there n (tests T) goal h b e)
+      go false e = over _ (vars T goal h b i cs) refl (Next.down-there n (tests T) goal h b e)
 
   down-loop : (k goal : ℕ) (T : Form) (h b i : ℕ) (cs : List Call) → 1 ≤ b → b ≤ 3 → Settled (tests T) h b → goal ≤ h + k → ltb h goal ≡ true → Runs (lower goal h b between) T cs (label10 r n k (vars T goal h b i cs))
   unfolding label10
@@ -282,7 +297,7 @@ module _ {Form : Type 0} (r : Routines Form) (n : ℕ) where
     where
       go : (x : Bool) → ltb goal h ≡ x → Runs (upper goal h b between) T cs (cond x (label20 r k (vars T goal h b i cs)) (goes (vars T goal h b i cs)))
       go true e = again e
-      go false e = over _ (vars T goal h b i cs) (Next.up-there n (tests T) goal h b e)
+      go false e = over _ (vars T goal h b i cs) refl (Next.up-there n (tests T) goal h b e)
 
   up-loop : (k goal : ℕ) (T : Form) (h b i : ℕ) (cs : List Call) → 1 ≤ b → b ≤ 3 → Settled (tests T) h b → h ≤ goal + k → ltb goal h ≡ true → Runs (upper goal h b between) T cs (label20 r k (vars T goal h b i cs))
   unfolding label20
@@ -298,13 +313,14 @@ module _ {Form : Type 0} (r : Routines Form) (n : ℕ) where
     pub calls : v .calls ≡ map asCall es
     pub form : v .T ≡ left r T (map asCall es)
     pub follows : Theirs p T es
+    pub landed : Good n tests leaves fails T es → v .ILST ≡ ends n tests leaves fails p T es + 1
 
   chosen : (p : Place) (T : Form) (c : Control Form) → Runs p T [] c → Chosen p T (returned c)
-  chosen p T c k = record { es = k .es; calls = k .calls; form = k .form; follows = k .follows }
+  chosen p T c k = record { es = k .es; calls = k .calls; form = k .form; follows = k .follows; landed = k .landed }
 
-  stays : (p : Place) (T : Form) (ILST : ℕ) → next n p (tests T) ≡ ended → Chosen p T (record { T = T; ILST = ILST; INFO = 0; calls = [] })
-  unfolding left
-  stays p T ILST h = record { es = []; calls = refl; form = refl; follows = h }
+  stays : (p : Place) (T : Form) (ILST : ℕ) → ILST ≡ p .here + 1 → next n p (tests T) ≡ ended → Chosen p T (record { T = T; ILST = ILST; INFO = 0; calls = [] })
+  unfolding left reached
+  stays p T ILST e h = record { es = []; calls = refl; form = refl; follows = h; landed = λ _. e }
 
   module _ (T : Form) where
     -- IFST and ILST, back at the first row of the block
@@ -334,45 +350,68 @@ module _ {Form : Type 0} (r : Routines Form) (n : ℕ) where
           | inr x ↦ elim (size-cases n (tests T) b) [ inl y ↦ rw (x, y .0) | inr y ↦ rw (x, y) ]
         ]
 
+    -- dtrexc, once it knows the two first rows, and where it begins then
+    runs : ℕ → ℕ → Returned Form
+    runs a b =
+        let NBF = sizeBy n (tests T) a in
+        cond (eqb (a + 1) (b + 1)) (record { T = T; ILST = b + 1; INFO = 0; calls = [] })
+        (cond (ltb (a + 1) (b + 1)) (returned (label10 r n n (record { T = T; ILST = updated NBF (sizeBy n (tests T) b) (b + 1); HERE = a + 1; NBF = NBF; INFO = 0; calls = [] })))
+        (returned (label20 r n (vars T b a NBF 0 []))))
+
+    begins : ℕ → ℕ → Place
+    begins a b =
+        let nbf = sizeBy n (tests T) a in
+        cond (ltb a b) (lower (goalDown nbf (sizeBy n (tests T) b) b) a nbf between) (upper b a nbf between)
+
+    dtrexc-runs : (from to : ℕ) → leb n 1 ≡ false → dtrexc r n T (from + 1) (to + 1) ≡ runs (firstBy (tests T) from) (firstBy (tests T) to)
+    unfolding dtrexc dtrexcBy runs
+    dtrexc-runs from to e = rw (e, first-of from, first-of to, block-of (firstBy (tests T) from), block-of (firstBy (tests T) to))
+
+    -- nowhere to go
+    there : (a b ILST : ℕ) → a ≡ b → ILST ≡ a + 1 → Chosen (begins a b) T (record { T = T; ILST = ILST; INFO = 0; calls = [] })
+    unfolding begins
+    there a b ILST e l = rw (le-ltb a b (omega arith)) (stays (upper b a (sizeBy n (tests T) a) between) T ILST l (Next.up-there n (tests T) b a (sizeBy n (tests T) a) (le-ltb b a (omega arith))))
+
+    size-high : (a : ℕ) → sizeBy n (tests T) a ≤ 3
+    size-high a = let s = Next.size-in n (tests T) a .1 in omega arith
+
+    goes-down : (a b goal : ℕ) → updated (sizeBy n (tests T) a) (sizeBy n (tests T) b) (b + 1) ≡ goal + 1 → a < goal → goal ≤ n
+        → Chosen (lower goal a (sizeBy n (tests T) a) between) T (returned (label10 r n n (record { T = T; ILST = updated (sizeBy n (tests T) a) (sizeBy n (tests T) b) (b + 1); HERE = a + 1; NBF = sizeBy n (tests T) a; INFO = 0; calls = [] })))
+    goes-down a b goal e l g =
+        rw e (chosen _ T _ (down-loop n goal T a (sizeBy n (tests T) a) 0 [] (Next.some-size n (tests T) a) (size-high a) (settled-size n (tests T) a) (omega arith) (lt-ltb a goal l)))
+
+    goes-up : (a b : ℕ) → b < a → a < n → Chosen (upper b a (sizeBy n (tests T) a) between) T (returned (label20 r n (vars T b a (sizeBy n (tests T) a) 0 [])))
+    goes-up a b l g = chosen _ T _ (up-loop n b T a (sizeBy n (tests T) a) 0 [] (Next.some-size n (tests T) a) (size-high a) (settled-size n (tests T) a) (omega arith) (lt-ltb b a l))
+
+    runs-follow : (a to : ℕ) → a < n → to < n → Chosen (begins a (firstBy (tests T) to)) T (runs a (firstBy (tests T) to))
+    unfolding begins runs
+    runs-follow a to l k =
+        let b = firstBy (tests T) to in
+        elim (ℕ-discrete a b) [
+          | yes x ↦ rw (eq-eqb (a + 1) (b + 1) (omega arith)) (there a b (b + 1) x (omega arith))
+          | no x ↦ rw (ne-eqb (a + 1) (b + 1) (omega arith), ltb-next a b)
+              (elim (decLt a b) [
+                | yes y ↦ let g = Next.goal-in n (tests T) a to k y in
+                    let u = g .0 in
+                    let v = g .1 in
+                    rw (lt-ltb a b y) (goes-down a b _ (goal-of a b y) u (omega arith))
+                | no y ↦ rw (le-ltb a b (omega arith)) (goes-up a b (omega arith) l)
+              ])
+        ]
+
+    -- a form of one row
+    single : (from to : ℕ) → from < n → to < n → leb n 1 ≡ true → Chosen (begins (firstBy (tests T) from) (firstBy (tests T) to)) T (dtrexc r n T (from + 1) (to + 1))
+    unfolding dtrexc dtrexcBy
+    single from to l k e =
+        let o = leb-true n 1 e in
+        let p = Next.first-in n (tests T) from l in
+        let q = Next.first-in n (tests T) to k in
+        rw e (there (firstBy (tests T) from) (firstBy (tests T) to) (to + 1) (omega arith) (omega arith))
+
     pub dtrexc-follows : (from to : ℕ) → from < n → to < n → Chosen (start n from to (tests T)) T (dtrexc r n T (from + 1) (to + 1))
-    unfolding dtrexc dtrexcBy start
+    unfolding start begins
     dtrexc-follows from to l k = go (leb n 1) refl
       where
-        Z : Zeros
-        Z = tests T
-
-        a : ℕ
-        a = firstBy Z from
-
-        b : ℕ
-        b = firstBy Z to
-
-        p : a < n
-        p = Next.first-in n Z from l
-
-        q : b < n
-        q = Next.first-in n Z to k
-
-        s : (1 ≤ sizeBy n Z a) × (sizeBy n Z a ≤ 2) × (Next.wide (sizeBy n Z a) ≡ sizeBy n Z a) × (a < n → a + sizeBy n Z a ≤ n)
-        s = Next.size-in n Z a
-
-        high : sizeBy n Z a ≤ 3
-        high = omega (arith, s .1)
-
-        go : (c : Bool) → leb n 1 ≡ c → Chosen (start n from to Z) T (dtrexc r n T (from + 1) (to + 1))
-        go true e =
-            let o = leb-true n 1 e in
-            rw (e, le-ltb a b (omega (arith, p, q))) (stays (upper b a (sizeBy n Z a) between) T (to + 1) (Next.up-there n Z b a (sizeBy n Z a) (le-ltb b a (omega (arith, p, q)))))
-        go false e =
-            rw (e, first-of from, first-of to, block-of a, block-of b)
-            (elim (ℕ-discrete a b) [
-              | yes x ↦ rw (eq-eqb (a + 1) (b + 1) (omega arith), le-ltb a b (omega arith)) (stays (upper b a (sizeBy n Z a) between) T (b + 1) (Next.up-there n Z b a (sizeBy n Z a) (le-ltb b a (omega arith))))
-              | no x ↦ rw (ne-eqb (a + 1) (b + 1) (omega arith), ltb-next a b)
-                  (elim (decLt a b) [
-                    | yes y ↦ let g = Next.goal-in n Z a to k y in
-                        let u = g .0 in
-                        let v = g .1 in
-                        rw (lt-ltb a b y, goal-of a b y) (chosen _ T _ (down-loop n _ T a (sizeBy n Z a) 0 [] (s .0) high (settled-size n Z a) (omega arith) (lt-ltb a _ u)))
-                    | no y ↦ rw (le-ltb a b (omega arith)) (chosen _ T _ (up-loop n b T a (sizeBy n Z a) 0 [] (s .0) high (settled-size n Z a) (omega (arith, p)) (lt-ltb b a (omega arith))))
-                  ])
-            ])
+        go : (c : Bool) → leb n 1 ≡ c → Chosen (begins (firstBy (tests T) from) (firstBy (tests T) to)) T (dtrexc r n T (from + 1) (to + 1))
+        go true e = single from to l k e
+        go false e = rw (dtrexc-runs from to e) (runs-follow (firstBy (tests T) from) to (Next.first-in n (tests T) from l) k)

@@ -1,8 +1,8 @@
 -- A list of exchanges that does what is next at each place, over any form and whatever an exchange does to it, up to the first that fails. Two such lists agree as long as the zeros do. Assumes nothing.
 use Prim.Native.Nat.{ℕ, zero, suc, _+_, _≤_, _<_}
 use native.Mathlib.Omega.{arith}
-use mathlib.Core.Path.{_≡_, refl, sym, ap, subst, _∙_}
-use mathlib.Core.Option.{Option·none-ne-some}
+use mathlib.Core.Path.{_≡_, refl, sym, ap, ap₂, subst, _∙_}
+use mathlib.Core.Option.{Option·none-ne-some, Option·some-injective}
 use mathlib.Core.List.{List, [], _∷_}
 use lib.ListN.{take, getElem?}
 use Rattle.model.specs.Move.{Exchange}
@@ -63,16 +63,20 @@ module _ (n : ℕ) {X : Type 0} (z w : X → Zeros) (by : X → Exchange → X) 
       let q = h .0 in
       (q, sym (same-next n (z x) (w x) (same x) p i) ∙ h .1, λ g. follows-below q (by x e) es (subst (Stays n) (h .1) (next-stays n (z x) p i)) (h .2 g))
 
-  pub ends-below : ((x : X) (e : Exchange) → bad x e ≡ 0) → (p : Place) (x : X) (es : List Exchange) → Fits n p → Follows n z by bad p x es → ends n z by bad p x es ≡ ends n w by bad p x es
+  pub ends-below : (p : Place) (x : X) (es : List Exchange) → Good n z by bad x es → Fits n p → Follows n z by bad p x es → ends n z by bad p x es ≡ ends n w by bad p x es
   unfolding reached
-  ends-below fine p x [] i h = refl
-  ends-below fine p x (e ∷ es) i h =
+  ends-below p x [] g i h = refl
+  ends-below p x (e ∷ es) g i h =
       let q = h .0 in
       ends-more n z by bad p q x e es (h .1)
-      ∙ ends-below fine q (by x e) es (subst (Stays n) (h .1) (next-stays n (z x) p i)) (h .2 (fine x e))
+      ∙ ends-below q (by x e) es (g .1) (subst (Stays n) (h .1) (next-stays n (z x) p i)) (h .2 (g .0))
       ∙ sym (ends-more n w by bad p q x e es (sym (same-next n (z x) (w x) (same x) p i) ∙ h .1))
 
 -- two of them, of which the second never fails
+takes-exchange : (e d : Exchange) (p q : Place) → takes e p ≡ takes d q → e ≡ d
+unfolding exchangeOf
+takes-exchange e d p q h = Option·some-injective e d (ap exchangeOf h)
+
 takes-place : (e d : Exchange) (p q : Place) → takes e p ≡ takes d q → p ≡ q
 unfolding placeOf
 takes-place e d p q h = ap (placeOf p) h
@@ -94,3 +98,20 @@ module _ (n : ℕ) {X Y : Type 0} (z : X → Zeros) (by : X → Exchange → X) 
       let m = sym (h .1) ∙ ap (next n p) (same 0 (omega arith)) ∙ l .1 in
       let q = takes-place e d (h .0) (l .0) m in
       follows-both k (h .0) (by x e) (by′ y d) es ds (h .2 (g .0)) (subst (λ (r : Place). Follows n z′ by′ (λ _ _. 0) r (by′ y d) ds) (sym q) (l .2 refl)) (λ i b. same (suc i) (omega arith)) (g .1)
+
+  -- and to the end, if nothing fails
+  pub follows-all : (p : Place) (x : X) (y : Y) (es ds : List Exchange) → Follows n z by bad p x es → Follows n z′ by′ (λ _ _. 0) p y ds
+      → ((i : ℕ) → z (after n z by bad x (take i es)) ≡ z′ (after n z′ by′ (λ _ _. 0) y (take i ds))) → Good n z by bad x es
+      → (es ≡ ds) × (ends n z by bad p x es ≡ ends n z′ by′ (λ _ _. 0) p y ds)
+  unfolding reached
+  follows-all p x y [] [] h l same g = (refl, refl)
+  follows-all p x y [] (d ∷ ds) h l same g = absurd (ended-not d (l .0) (sym h ∙ ap (next n p) (same 0) ∙ l .1))
+  follows-all p x y (e ∷ es) [] h l same g = absurd (ended-not e (h .0) (sym l ∙ sym (ap (next n p) (same 0)) ∙ h .1))
+  follows-all p x y (e ∷ es) (d ∷ ds) h l same g =
+      let m = sym (h .1) ∙ ap (next n p) (same 0) ∙ l .1 in
+      let q = takes-place e d (h .0) (l .0) m in
+      let r =
+          follows-all (h .0) (by x e) (by′ y d) es ds (h .2 (g .0)) (subst (λ (r : Place). Follows n z′ by′ (λ _ _. 0) r (by′ y d) ds) (sym q) (l .2 refl)) (λ i. same (suc i)) (g .1) in (
+        ap₂ (λ (a : Exchange) (b : List Exchange). a ∷ b) (takes-exchange e d (h .0) (l .0) m) (r .0),
+        ends-more n z by bad p (h .0) x e es (h .1) ∙ r .1 ∙ sym (ends-more n z′ by′ (λ _ _. 0) p (h .0) y d ds (l .1 ∙ ap (takes d) (sym q))),
+      )

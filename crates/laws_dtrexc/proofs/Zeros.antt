@@ -74,7 +74,7 @@ place-lands f ld n from to t l k =
     let w = Ours.move-follows f ld n from to t l k in
     ap (λ (Zs : List Zeros). reached n (start n from to (zeros f ld n t)) Zs .here) (met-is f ld n t es)
     ∙ ap (λ (p : Place). reached n p (seen n (zeros f ld n) (by f ld n) (λ _ _. 0) t es) .here) (sym (same-start n (zeroBelow f ld t) (zeros f ld n t) (inside f ld n t) from to l k))
-    ∙ sym (ends-below n (zeroBelow f ld) (zeros f ld n) (by f ld n) (λ _ _. 0) (inside f ld n) (λ _ _. refl) _ t es (start-fits n (zeroBelow f ld t) from to l k) (w .follows))
+    ∙ sym (ends-below n (zeroBelow f ld) (zeros f ld n) (by f ld n) (λ _ _. 0) (inside f ld n) _ t es (all-good f ld n t es) (start-fits n (zeroBelow f ld t) from to l k) (w .follows))
     ∙ w .here
 
 zeros-same : (n : ℕ) (f : Format) (ld : ℕ) (t : List Float) (g : Format) (ld′ : ℕ) (u : List Float) → ((j : ℕ) → j + 1 < n → zeroBelow f ld t j ≡ zeroBelow g ld′ u j) → zeros f ld n t ≡ zeros g ld′ n u
