@@ -111,7 +111,7 @@ module _ (n : ℕ) {X Y : Type 0} (z : X → Zeros) (by : X → Exchange → X) 
       let m = sym (h .1) ∙ ap (next n p) (same 0) ∙ l .1 in
       let q = takes-place e d (h .0) (l .0) m in
       let r =
-          follows-all (h .0) (by x e) (by′ y d) es ds (h .2 (g .0)) (subst (λ (r : Place). Follows n z′ by′ (λ _ _. 0) r (by′ y d) ds) (sym q) (l .2 refl)) (λ i. same (suc i)) (g .1) in (
+      follows-all (h .0) (by x e) (by′ y d) es ds (h .2 (g .0)) (subst (λ (r : Place). Follows n z′ by′ (λ _ _. 0) r (by′ y d) ds) (sym q) (l .2 refl)) (λ i. same (suc i)) (g .1) in (
         ap₂ (λ (a : Exchange) (b : List Exchange). a ∷ b) (takes-exchange e d (h .0) (l .0) m) (r .0),
         ends-more n z by bad p (h .0) x e es (h .1) ∙ r .1 ∙ sym (ends-more n z′ by′ (λ _ _. 0) p (h .0) y d ds (l .1 ∙ ap (takes d) (sym q))),
       )

@@ -14,9 +14,9 @@ use Rattle.model.specs.Swaps.{Change, unchanged, andThen}
 use Rattle.model.specs.Move.{Exchange, move}
 use Rattle.laws_dtrexc.specs.Dtrexc.{Routines}
 use Rattle.laws_dtrexc.specs.Choice.{asCall, make, made}
-use Rattle.laws_dtrexc.specs.Zeros.{Zeros, zeros, zerosIn, Place, next, start, exchangeOf, reached, met, before, left, Fine, metIn, run, beforeIn, SameZeros, ChoiceReadsZeros, PlaceLands, SameZerosSameExchange, CallsMade, DtrexcReadsZeros, DtrexcSameZeros}
+use Rattle.laws_dtrexc.specs.Zeros.{Zeros, zeros, zerosIn, Place, next, start, exchangeOf, reached, met, before, left, Fine, metIn, run, beforeIn, formAt, formIn, SameZeros, ChoiceReadsZeros, PlaceLands, SameZerosSameExchange, CallsMade, DtrexcReadsZeros, DtrexcSameZeros, DtrexcSameEnd}
 use Rattle.laws_dtrexc.proofs.Next.{guarded, same-start, start-fits}
-use Rattle.laws_dtrexc.proofs.Follow.{Follows, after, seen, Good, follows-at, follows-below, ends-below, follows-both}
+use Rattle.laws_dtrexc.proofs.Follow.{Follows, after, seen, Good, follows-at, follows-below, ends, ends-below, follows-both, follows-all}
 use Rattle.laws_dtrexc.proofs.Ours
 use Rattle.laws_dtrexc.proofs.Any
 
@@ -68,14 +68,19 @@ choice-reads-zeros f ld n from to t l k i =
     follows-at n (zeros f ld n) (by f ld n) (λ _ _. 0) i _ t (move f ld n from to t .exchanges) (move-chosen f ld n from to t l k) (all-good f ld n t es)
     ∙ ap₂ (λ (Zs : List Zeros) (u : List Float). exchangeOf (next n (reached n (start n from to (zeros f ld n t)) Zs) (zeros f ld n u))) (sym (met-is f ld n t es)) (sym (made-is f ld n (unchanged t) es))
 
-pub place-lands : PlaceLands
-place-lands f ld n from to t l k =
+-- the row at the end
+move-ends : (f : Format) (ld n from to : ℕ) (t : List Float) → from < n → to < n
+    → ends n (zeros f ld n) (by f ld n) (λ _ _. 0) (start n from to (zeros f ld n t)) t (move f ld n from to t .exchanges) ≡ move f ld n from to t .here
+move-ends f ld n from to t l k =
     let es = move f ld n from to t .exchanges in
     let w = Ours.move-follows f ld n from to t l k in
-    ap (λ (Zs : List Zeros). reached n (start n from to (zeros f ld n t)) Zs .here) (met-is f ld n t es)
-    ∙ ap (λ (p : Place). reached n p (seen n (zeros f ld n) (by f ld n) (λ _ _. 0) t es) .here) (sym (same-start n (zeroBelow f ld t) (zeros f ld n t) (inside f ld n t) from to l k))
+    ap (λ (p : Place). ends n (zeros f ld n) (by f ld n) (λ _ _. 0) p t es) (sym (same-start n (zeroBelow f ld t) (zeros f ld n t) (inside f ld n t) from to l k))
     ∙ sym (ends-below n (zeroBelow f ld) (zeros f ld n) (by f ld n) (λ _ _. 0) (inside f ld n) _ t es (all-good f ld n t es) (start-fits n (zeroBelow f ld t) from to l k) (w .follows))
     ∙ w .here
+
+pub place-lands : PlaceLands
+place-lands f ld n from to t l k =
+    ap (λ (Zs : List Zeros). reached n (start n from to (zeros f ld n t)) Zs .here) (met-is f ld n t (move f ld n from to t .exchanges)) ∙ move-ends f ld n from to t l k
 
 zeros-same : (n : ℕ) (f : Format) (ld : ℕ) (t : List Float) (g : Format) (ld′ : ℕ) (u : List Float) → ((j : ℕ) → j + 1 < n → zeroBelow f ld t j ≡ zeroBelow g ld′ u j) → zeros f ld n t ≡ zeros g ld′ n u
 unfolding zeros
@@ -135,6 +140,14 @@ module _ {Form : Type 0} (r : Routines Form) (n : ℕ) where
         subst (λ p. Follows n (zerosIn r n) theirs fails p T all) (same-start n (Any.tests r n T) (zerosIn r n T) (inside-in T) from to l k)
         (follows-below n (Any.tests r n) (zerosIn r n) theirs fails inside-in _ T all (start-fits n (Any.tests r n T) from to l k) (run-chosen .follows))
 
+    run-ends : Good n (zerosIn r n) theirs fails T all → run r n from to T .ILST ≡ ends n (zerosIn r n) theirs fails (start n from to (zerosIn r n T)) T all + 1
+    unfolding all
+    run-ends g =
+        run-chosen .landed g
+        ∙ ap (λ (x : ℕ). x + 1)
+        (ends-below n (Any.tests r n) (zerosIn r n) theirs fails inside-in _ T all g (start-fits n (Any.tests r n T) from to l k) (run-chosen .follows)
+        ∙ ap (λ (p : Place). ends n (zerosIn r n) theirs fails p T all) (same-start n (Any.tests r n T) (zerosIn r n T) (inside-in T) from to l k))
+
 pub calls-made : CallsMade
 calls-made Form r n from to T l k = let c = run-chosen r n from to T l k in c .form ∙ ap (left r T) (sym (c .calls))
 
@@ -158,16 +171,42 @@ both-zeros r n T f ld t h = fun-ext (λ j. guarded (ltb (j + 1) n) _ _ (λ e. le
         let e : j + 2 ≡ j + 1 + 1 = omega arith in
         ap (λ I. r .zero T I (j + 1)) e ∙ h (j + 1) (omega arith) l ∙ ap (zeroBelow f ld t) (add-sub-cancel j 1)
 
+module _ {Form : Type 0} (r : Routines Form) (T : Form) (f : Format) (ld n from to : ℕ) (t : List Float) (l : from < n) (k : to < n) where
+  -- before number i
+  same-at : (i : ℕ) → SameZeros r n (formIn r n from to T i) f ld (formAt f ld n from to t i)
+      → zerosIn r n (after n (zerosIn r n) (theirs r n) (fails r n) T (take i (all r n from to T l k))) ≡ zeros f ld n (after n (zeros f ld n) (by f ld n) (λ _ _. 0) t (take i (move f ld n from to t .exchanges)))
+  same-at i h =
+      let es = all r n from to T l k in
+      ap (zerosIn r n) (sym (ap (left r T) (first-calls r n from to T l k i) ∙ left-is r n T (take i es)))
+      ∙ both-zeros r n _ f ld _ h
+      ∙ ap (zeros f ld n) (made-is f ld n (unchanged t) (take i (move f ld n from to t .exchanges)))
+
+  -- from the place where dtrexc begins
+  start-same : SameZeros r n (formIn r n from to T 0) f ld (formAt f ld n from to t 0) → start n from to (zeros f ld n t) ≡ start n from to (zerosIn r n T)
+  unfolding left made
+  start-same h = ap (start n from to) (sym (both-zeros r n T f ld t h))
+
+  moved-from : SameZeros r n (formIn r n from to T 0) f ld (formAt f ld n from to t 0) → Follows n (zeros f ld n) (by f ld n) (λ _ _. 0) (start n from to (zerosIn r n T)) t (move f ld n from to t .exchanges)
+  moved-from h = subst (λ (p : Place). Follows n (zeros f ld n) (by f ld n) (λ _ _. 0) p t (move f ld n from to t .exchanges)) (start-same h) (move-chosen f ld n from to t l k)
+
 pub dtrexc-same-zeros : DtrexcSameZeros
-unfolding left made
 dtrexc-same-zeros Form r T f ld n from to t l k i same g =
     let es = all r n from to T l k in
     let ds = move f ld n from to t .exchanges in
-    let start-at = both-zeros r n T f ld t (same 0 (omega arith)) in
     ap (λ cs. getElem? cs i) (all-calls r n from to T l k) ∙ map-get asCall es i
     ∙ ap (Option·map asCall)
-    (follows-both n (zerosIn r n) (theirs r n) (fails r n) (zeros f ld n) (by f ld n) i _ T t es ds (run-follows r n from to T l k)
-    (subst (λ Z. Follows n (zeros f ld n) (by f ld n) (λ _ _. 0) (start n from to Z) t ds) (sym start-at) (move-chosen f ld n from to t l k))
-    (λ j b. ap (zerosIn r n) (sym (ap (left r T) (first-calls r n from to T l k j) ∙ left-is r n T (take j es))) ∙ both-zeros r n _ f ld _ (same j b) ∙ ap (zeros f ld n) (made-is f ld n (unchanged t) (take j ds)))
-    (fine-good r n T (take i es) (subst (Fine r T) (first-calls r n from to T l k i) g)))
+    (follows-both n (zerosIn r n) (theirs r n) (fails r n) (zeros f ld n) (by f ld n) i _ T t es ds (run-follows r n from to T l k) (moved-from r T f ld n from to t l k (same 0 (omega arith)))
+    (λ j b. same-at r T f ld n from to t l k j (same j b)) (fine-good r n T (take i es) (subst (Fine r T) (first-calls r n from to T l k i) g)))
     ∙ sym (map-get asCall ds i)
+
+pub dtrexc-same-end : DtrexcSameEnd
+dtrexc-same-end Form r T f ld n from to t l k same g =
+    let es = all r n from to T l k in
+    let ds = move f ld n from to t .exchanges in
+    let e = all-calls r n from to T l k in
+    let fine = fine-good r n T es (subst (Fine r T) e g) in
+    let x =
+    follows-all n (zerosIn r n) (theirs r n) (fails r n) (zeros f ld n) (by f ld n) _ T t es ds (run-follows r n from to T l k) (moved-from r T f ld n from to t l k (same 0))
+    (λ j. same-at r T f ld n from to t l k j (same j)) fine in
+    let y = ap (λ (p : Place). ends n (zeros f ld n) (by f ld n) (λ _ _. 0) p t ds) (sym (start-same r T f ld n from to t l k (same 0))) in
+    (e ∙ ap (map asCall) (x .0), run-ends r n from to T l k fine ∙ ap (λ (h : ℕ). h + 1) (x .1 ∙ y ∙ move-ends f ld n from to t l k))

@@ -216,3 +216,11 @@ DtrexcSameZeros =
     → ((i : ℕ) → i ≤ k → SameZeros r n (formIn r n from to T i) f ld (formAt f ld n from to t i))
     → Fine r T (beforeIn r n from to T k)
     → getElem? (run r n from to T .calls) k ≡ getElem? (map asCall (move f ld n from to t .exchanges)) k
+
+-- Where that holds before each exchange, and no call of dtrexc failed, the two make the same exchanges to the end, and land in the same row
+abbrev pub DtrexcSameEnd : Type 1
+DtrexcSameEnd =
+    (Form : Type 0) (r : Routines Form) (T : Form) (f : Format) (ld n from to : ℕ) (t : List Float) → from < n → to < n
+    → ((i : ℕ) → SameZeros r n (formIn r n from to T i) f ld (formAt f ld n from to t i))
+    → Fine r T (run r n from to T .calls)
+    → (run r n from to T .calls ≡ map asCall (move f ld n from to t .exchanges)) × (run r n from to T .ILST ≡ move f ld n from to t .here + 1)
