@@ -51,7 +51,7 @@ module _ (f : Format) (ld n : ℕ) where
       elim (decLt goal (m .here))
       [ yes p ↦ rw (lt-ltb goal (m .here) p) (let s = higher m (omega arith) in up-arrives k goal (upStep f ld n m) (omega arith)) | no p ↦ rw (le-ltb goal (m .here) (omega arith)) (omega arith) ]
 
-  first-le : (t : List Float) (p : ℕ) → firstRow f ld t p ≤ p
+  pub first-le : (t : List Float) (p : ℕ) → firstRow f ld t p ≤ p
   unfolding firstRow
   first-le t p = go (ltb 0 p && nonzeroBelow f ld t (p - 1))
     where
@@ -59,7 +59,7 @@ module _ (f : Format) (ld n : ℕ) where
       go true = omega arith
       go false = omega arith
 
-  goal-le : (t : List Float) (a b : ℕ) → goalDown (sizeAt f ld n t a) (sizeAt f ld n t b) b ≤ b + 1
+  pub goal-le : (t : List Float) (a b : ℕ) → goalDown (sizeAt f ld n t a) (sizeAt f ld n t b) b ≤ b + 1
   unfolding goalDown
   goal-le t a b = go (eqb (sizeAt f ld n t a) 2 && eqb (sizeAt f ld n t b) 1) (eqb (sizeAt f ld n t a) 1 && eqb (sizeAt f ld n t b) 2)
     where

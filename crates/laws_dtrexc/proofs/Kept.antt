@@ -78,19 +78,19 @@ nbf-put row true m h = record { low = omega arith; high = omega arith }
 nbf-put row false m h = record { low = h .low; high = h .high }
 
 -- and tells whether the block is whole
-pub nbf-kind : (m : Moving) → Nbf m → ((eqb (m .nbf) 3 ≡ true) × ((eqb (m .nbf) 1 || eqb (m .nbf) 2) ≡ false)) ⊎ ((eqb (m .nbf) 3 ≡ false) × ((eqb (m .nbf) 1 || eqb (m .nbf) 2) ≡ true))
-nbf-kind m h = go (eqb (m .nbf) 1) (eqb (m .nbf) 2) refl refl
+pub kind : (k : ℕ) → 1 ≤ k → k ≤ 3 → ((eqb k 3 ≡ true) × ((eqb k 1 || eqb k 2) ≡ false)) ⊎ ((eqb k 3 ≡ false) × ((eqb k 1 || eqb k 2) ≡ true))
+kind k low high = go (eqb k 1) (eqb k 2) refl refl
   where
-    k : ℕ
-    k = m .nbf
-
     Kind : Bool → Bool → Type 0
     Kind a b = ((eqb k 3 ≡ true) × ((a || b) ≡ false)) ⊎ ((eqb k 3 ≡ false) × ((a || b) ≡ true))
 
     go : (a b : Bool) → eqb k 1 ≡ a → eqb k 2 ≡ b → Kind a b
     go true b p q = inr (ne-eqb k 3 (λ e. let r = eqb-true k 1 p in omega arith), refl)
     go false true p q = inr (ne-eqb k 3 (λ e. let r = eqb-true k 2 q in omega arith), refl)
-    go false false p q = inl (eq-eqb k 3 (omega (arith, eqb-false k 1 p, eqb-false k 2 q, h .low, h .high)), refl)
+    go false false p q = inl (eq-eqb k 3 (omega (arith, eqb-false k 1 p, eqb-false k 2 q, low, high)), refl)
+
+pub nbf-kind : (m : Moving) → Nbf m → ((eqb (m .nbf) 3 ≡ true) × ((eqb (m .nbf) 1 || eqb (m .nbf) 2) ≡ false)) ⊎ ((eqb (m .nbf) 3 ≡ false) × ((eqb (m .nbf) 1 || eqb (m .nbf) 2) ≡ true))
+nbf-kind m h = kind (m .nbf) (h .low) (h .high)
 
 module _ (f : Format) (ld n : ℕ) (t : List Float) where
   -- the list of exchanges is what was done

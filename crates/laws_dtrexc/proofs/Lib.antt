@@ -10,3 +10,8 @@ pub mod Choice
 pub mod Rounds
 pub mod Arrives
 pub mod Recorded
+pub mod Next
+pub mod Follow
+pub mod Ours
+pub mod Any
+pub mod Zeros

@@ -21,7 +21,7 @@ abbrev pub seen : ℕ → ℕ → Moving → Variables (List Float)
 seen info goal m = record { T = m .change .form; ILST = goal + 1; HERE = m .here + 1; NBF = m .nbf; INFO = info; calls = map asCall (m .exchanges) }
 
 -- two tests under one guard
-guard : (a b x y : Bool) → a ≡ b → (b ≡ true → x ≡ y) → (a && x) ≡ (b && y)
+pub guard : (a b x y : Bool) → a ≡ b → (b ≡ true → x ≡ y) → (a && x) ≡ (b && y)
 guard a true x y e h = rw e (h refl)
 guard a false x y e h = rw e
 
@@ -30,7 +30,7 @@ pub ltb-next : (a b : ℕ) → ltb (a + 1) (b + 1) ≡ ltb a b
 ltb-next a b = rw (add-one a, add-one b) (leb·suc-suc (suc a) b)
 
 -- the guard of a row above
-guard-above : (k p : ℕ) → leb (suc k) (p + 1) ≡ leb k p
+pub guard-above : (k p : ℕ) → leb (suc k) (p + 1) ≡ leb k p
 guard-above k p = rw (add-one p) (leb·suc-suc k p)
 
 module _ (f : Format) (ld n : ℕ) where

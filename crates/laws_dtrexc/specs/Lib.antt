@@ -2,3 +2,4 @@
 pub mod Dtrexc
 pub mod Choice
 pub mod Recorded
+pub mod Zeros
