@@ -20,7 +20,7 @@ use Rattle.laws_dtrexc.proofs.Follow.{Follows, Good, follows-as, ends, 
 
 module _ {Form : Type 0} (r : Routines Form) (n : ℕ) where
   abbrev pub tests : Form → Zeros
-  tests T j = r .zero T (j + 2) (j + 1)
+  tests T j = r .isZero T (j + 2) (j + 1)
 
   abbrev pub leaves : Form → Exchange → Form
   leaves T e = r .dlaexc T (e .row + 1) (e .n1) (e .n2) .T
@@ -88,7 +88,7 @@ module _ {Form : Type 0} (r : Routines Form) (n : ℕ) where
 
   -- ---- its tests are those of the zeros
 
-  zero-at : (T : Form) (I J j : ℕ) → I ≡ j + 2 → J ≡ j + 1 → r .zero T I J ≡ tests T j
+  zero-at : (T : Form) (I J j : ℕ) → I ≡ j + 2 → J ≡ j + 1 → r .isZero T I J ≡ tests T j
   zero-at T I J j p q = rw (p, q)
 
   size-of : (T : Form) (I J j : ℕ) → I ≡ j + 2 → J ≡ j + 1 → cond (leb I n && NE r T I J) 2 1 ≡ sizeBy n (tests T) j

@@ -78,7 +78,7 @@ module _ {Form : Type 0} (r : Routines Form) where
     past-lower : (v : Variables Form) → On (Lower v) (below3Past2 r N v)
     unfolding below3Past2 call toRow
     past-lower v =
-        let next : ℕ = cond (r .zero (v .T) (v .HERE + 2) (v .HERE + 1)) 1 2 in
+        let next : ℕ = cond (r .isZero (v .T) (v .HERE + 2) (v .HERE + 1)) 1 2 in
         on-cond (Lower v) (eqb next 2) _ _
         (on-bind (Still v) (Lower v) (callOrReturn r (v .HERE) 1 next v) (λ w. goes (toRow (w .HERE + 2) w)) (calls _ _ _ v) (λ w h. let e = h .row in record { row = omega arith; goal = h .goal }))
         (record { row = omega arith; goal = refl })
@@ -121,7 +121,7 @@ module _ {Form : Type 0} (r : Routines Form) where
   past-higher : (v : Variables Form) → 1 ≤ v .HERE → On (Higher v) (above3Past2 r v)
   unfolding above3Past2 call toRow
   past-higher v l =
-      let next : ℕ = cond (r .zero (v .T) (v .HERE) (v .HERE - 1)) 1 2 in
+      let next : ℕ = cond (r .isZero (v .T) (v .HERE) (v .HERE - 1)) 1 2 in
       on-cond (Higher v) (eqb next 2) _ _
       (on-bind (Still v) (Higher v) (callOrReturn r (v .HERE - 1) 2 1 v) (λ w. goes (toRow (w .HERE - 2) w)) (calls _ _ _ v) (λ w h. let e = h .row in record { row = omega arith; goal = h .goal }))
       (record { row = omega arith; goal = refl })

@@ -166,10 +166,10 @@ both-zeros : {Form : Type 0} (r : Routines Form) (n : ℕ) (T : Form) (f : Forma
 unfolding zerosIn zeros
 both-zeros r n T f ld t h = fun-ext (λ j. guarded (ltb (j + 1) n) _ _ (λ e. let l = ltb-true (j + 1) n e in at j l))
   where
-    at : (j : ℕ) → j + 1 < n → r .zero T (j + 2) (j + 1) ≡ zeroBelow f ld t j
+    at : (j : ℕ) → j + 1 < n → r .isZero T (j + 2) (j + 1) ≡ zeroBelow f ld t j
     at j l =
         let e : j + 2 ≡ j + 1 + 1 = omega arith in
-        ap (λ I. r .zero T I (j + 1)) e ∙ h (j + 1) (omega arith) l ∙ ap (zeroBelow f ld t) (add-sub-cancel j 1)
+        ap (λ I. r .isZero T I (j + 1)) e ∙ h (j + 1) (omega arith) l ∙ ap (zeroBelow f ld t) (add-sub-cancel j 1)
 
 module _ {Form : Type 0} (r : Routines Form) (T : Form) (f : Format) (ld n from to : ℕ) (t : List Float) (l : from < n) (k : to < n) where
   -- before number i

@@ -24,7 +24,7 @@ exchangeAt f ld n t J1 N1 N2 =
     record { T = c .form; INFO = declinedOf c }
 
 abbrev pub ours : Format → ℕ → ℕ → Routines (List Float)
-ours f ld n = record { zero = zeroAt f ld; dlaexc = exchangeAt f ld n }
+ours f ld n = record { isZero = zeroAt f ld; dlaexc = exchangeAt f ld n }
 
 -- from IFST = from + 1 to ILST = to + 1
 abbrev pub lapack : Format → ℕ → ℕ → ℕ → ℕ → List Float → Returned (List Float)

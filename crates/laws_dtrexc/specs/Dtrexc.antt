@@ -12,9 +12,9 @@ pub record Exchanged (Form : Type 0) : Type 0 where
   pub T : Form
   pub INFO : ℕ
 
--- zero is the test T( I, J ).EQ.ZERO of T, I and J, and dlaexc the CALL DLAEXC( .., T, .., J1, N1, N2, .., INFO ) of T, J1, N1 and N2
+-- isZero is the test T( I, J ).EQ.ZERO of T, I and J, and dlaexc the CALL DLAEXC( .., T, .., J1, N1, N2, .., INFO ) of T, J1, N1 and N2
 pub record Routines (Form : Type 0) : Type 0 where
-  pub zero : Form → ℕ → ℕ → Bool
+  pub isZero : Form → ℕ → ℕ → Bool
   pub dlaexc : Form → ℕ → ℕ → ℕ → Exchanged Form
 
 -- ---- its variables, and where control goes
@@ -64,7 +64,7 @@ toRow ROW v = record { T = v .T; ILST = v .ILST; HERE = ROW; NBF = v .NBF; INFO 
 module _ {Form : Type 0} (r : Routines Form) where
   -- T( I, J ).NE.ZERO
   abbrev pub NE : Form → ℕ → ℕ → Bool
-  NE T I J = not (r .zero T I J)
+  NE T I J = not (r .isZero T I J)
 
   -- CALL DLAEXC( .., J1, N1, N2, .., INFO )
   unfoldable pub call : ℕ → ℕ → ℕ → Variables Form → Variables Form
@@ -85,7 +85,7 @@ module _ {Form : Type 0} (r : Routines Form) where
         T = v .T;
         ILST = v .ILST;
         HERE = v .HERE;
-        NBF = cond (eqb (v .NBF) 2 && r .zero (v .T) (v .HERE + 1) (v .HERE)) 3 (v .NBF);
+        NBF = cond (eqb (v .NBF) 2 && r .isZero (v .T) (v .HERE + 1) (v .HERE)) 3 (v .NBF);
         INFO = v .INFO;
         calls = v .calls;
       }
@@ -104,7 +104,7 @@ module _ {Form : Type 0} (r : Routines Form) (N : ℕ) where
   -- two 1 by 1 blocks, of which the lower has passed a 2 by 2 block: recompute NBNEXT in case 2 by 2 split
   unfoldable pub below3Past2 : Variables Form → Control Form
   below3Past2 v =
-      let NBNEXT : ℕ = cond (r .zero (v .T) (v .HERE + 2) (v .HERE + 1)) 1 2 in
+      let NBNEXT : ℕ = cond (r .isZero (v .T) (v .HERE + 2) (v .HERE + 1)) 1 2 in
       cond (eqb NBNEXT 2)
       (do
         w ← callOrReturn r (v .HERE) 1 NBNEXT v
@@ -142,7 +142,7 @@ module _ {Form : Type 0} (r : Routines Form) where
   -- two 1 by 1 blocks, of which the upper has passed a 2 by 2 block: recompute NBNEXT in case 2 by 2 split
   unfoldable pub above3Past2 : Variables Form → Control Form
   above3Past2 v =
-      let NBNEXT : ℕ = cond (r .zero (v .T) (v .HERE) (v .HERE - 1)) 1 2 in
+      let NBNEXT : ℕ = cond (r .isZero (v .T) (v .HERE) (v .HERE - 1)) 1 2 in
       cond (eqb NBNEXT 2)
       (do
         w ← callOrReturn r (v .HERE - 1) 2 1 v

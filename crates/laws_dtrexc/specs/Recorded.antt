@@ -46,7 +46,7 @@ sameCalls (c ∷ cs) (d ∷ ds) = eqb (c .J1) (d .0) && eqb (c .N1) (d .1) && eq
 -- the control makes them, and ends as LAPACK did
 unfoldable pub agrees : Run → Bool
 agrees x =
-    let v = dtrexc (record { zero = zeroIn; dlaexc = nextIn }) (x .N) (x .form) (x .IFST) (x .ILST) in
+    let v = dtrexc (record { isZero = zeroIn; dlaexc = nextIn }) (x .N) (x .form) (x .IFST) (x .ILST) in
     sameCalls (v .calls) (x .calls) && eqb (v .ILST) (x .ended) && eqb (v .INFO) (x .INFO)
 
 unfoldable pub all : List Run → Bool

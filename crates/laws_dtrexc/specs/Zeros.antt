@@ -23,7 +23,7 @@ unfoldable pub zeros : Format → ℕ → ℕ → List Float → Zeros
 zeros f ld n t j = ltb (j + 1) n && zeroBelow f ld t j
 
 unfoldable pub zerosIn : {Form : Type 0} → Routines Form → ℕ → Form → Zeros
-zerosIn r n T j = ltb (j + 1) n && r .zero T (j + 2) (j + 1)
+zerosIn r n T j = ltb (j + 1) n && r .isZero T (j + 2) (j + 1)
 
 -- the first row of the block that row p is in, the size of the block that begins in row p, and of the one that ends above it
 unfoldable pub firstBy : Zeros → ℕ → ℕ
@@ -207,7 +207,7 @@ DtrexcReadsZeros =
 
 -- zeros at the same subdiagonal places, T( J+1, J ) for each J from 1 to n - 1
 abbrev pub SameZeros : {Form : Type 0} → Routines Form → ℕ → Form → Format → ℕ → List Float → Type 0
-SameZeros r n T f ld t = (J : ℕ) → 1 ≤ J → J < n → r .zero T (J + 1) J ≡ zeroBelow f ld t (J - 1)
+SameZeros r n T f ld t = (J : ℕ) → 1 ≤ J → J < n → r .isZero T (J + 1) J ≡ zeroBelow f ld t (J - 1)
 
 -- Take any form T that dtrexc works on, with any routines of its own, and any form of ours. If the two have had zeros at the same subdiagonal places before each exchange up to number k, and no call of dtrexc before that failed, then number k is the same in both, row and both sizes, or both have ended. Of ours it is not asked that none declined: the move goes on after a decline
 abbrev pub DtrexcSameZeros : Type 1

@@ -11,6 +11,7 @@ use Rattle.model.specs.Form.{line2, line3, line4, line5, line6, line7}
 use Rattle.model.specs.Move.{moveLine, moveCall}
 use Rattle.laws_moves.proofs.Lists.{lists-of-moves}
 use Rattle.laws_dtrexc.proofs.Choice.{dtrexc-choice}
+use Rattle.laws_dtrexc.proofs.Zeros.{choice-reads-zeros, dtrexc-same-zeros}
 use Rattle.schur.specs.Handed.{Chosen, CallsChoose, HandedOver}
 
 -- the last two of seven lines do not apply where none does
@@ -35,4 +36,4 @@ calls-choose f ld n t u from to h =
     record { call = rw h; choice = dtrexc-choice f ld n from to t (below n from (p .0)) (below n to (p .1)) }
 
 pub handed-over : HandedOver
-handed-over = record { lists = lists-of-moves; choice = calls-choose }
+handed-over = record { lists = lists-of-moves; choice = calls-choose; zeros = choice-reads-zeros; sameZeros = dtrexc-same-zeros }

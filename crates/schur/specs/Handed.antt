@@ -7,6 +7,7 @@ use lib.Ieee.{Float, Format}
 use Rattle.model.specs.Move.{moveLine, moved, move, moveCall}
 use Rattle.laws_moves.specs.Lists.{ListsOfMoves}
 use Rattle.laws_dtrexc.specs.Choice.{lapack, SameChoice}
+use Rattle.laws_dtrexc.specs.Zeros.{ChoiceReadsZeros, DtrexcSameZeros}
 
 -- a call that no line turns away is the move whose exchanges are dtrexc's
 pub record Chosen (f : Format) (ld n : ℕ) (t u : List Float) (from to : ℕ) : Type 0 where
@@ -16,8 +17,11 @@ pub record Chosen (f : Format) (ld n : ℕ) (t u : List Float) (from to : ℕ) :
 abbrev pub CallsChoose : Type 0
 CallsChoose = (f : Format) (ld n : ℕ) (t u : List Float) (from to : ℕ) → moveLine f ld n t u from to ≡ 0 → Chosen f ld n t u from to
 
-pub record HandedOver : Type 0 where
+pub record HandedOver : Type 1 where
   -- demand 3, whose lists are lists of `moveCall`
   pub lists : ListsOfMoves
   -- dtrexc's choice, of each accepted `moveCall`
   pub choice : CallsChoose
+  -- of the move that such a call is: each exchange is chosen by the zeros at that moment, and as dtrexc on any form with zeros at the same places chooses it
+  pub zeros : ChoiceReadsZeros
+  pub sameZeros : DtrexcSameZeros
