@@ -11,7 +11,14 @@ also be a list. A call that is turned away raises Refusal and has changed no buf
 
 The shared library, made by bindings/python/build, is VOLMEIXI_LIBRARY, or libvolmeixi.so beside
 this file, or the one in the repository's target/bindings.
+
+`python3 -m volmeixi` is the command of volmeixi_desk: sheets in decimals.
 """
+
+if __name__ == "__main__":  # before the library is asked for: the command says itself what is missing
+    import volmeixi_desk.command
+
+    raise SystemExit(volmeixi_desk.command.main())
 
 import ctypes
 import operator
