@@ -5,7 +5,7 @@ import os
 import sys
 
 from . import plot, show
-from .modes import modes_of
+from .modes import first_row, modes_of
 from .texts import (
     MOST_ROWS,
     Complaint,
@@ -113,7 +113,7 @@ def plotted(given):
             planes.append((after, modes_of(part.n, part.form), part.landed if part.declined == 0 else None))
         else:
             before = f"before: row {part.start} is to go to row {part.goal}"
-            planes.append((before, modes_of(part.n, part.form), show._first_row(part.n, part.form, part.start)))
+            planes.append((before, modes_of(part.n, part.form), first_row(part.n, part.form, part.start)))
     title = given.title or f"Modes of {os.path.basename(parts[0][1])}, {count(parts[0][0].n, 'row')}"
     write_text(given.output, plot.svg_of(planes, title))
 

@@ -75,6 +75,11 @@ def _standard(n, form, j):
     return form[j + n * j] == form[j + 1 + n * (j + 1)] and (upper < 0 < lower or lower < 0 < upper)
 
 
+def first_row(n, form, row):
+    """The first row of the block that a row is in."""
+    return row - 1 if row > 0 and not form[row + n * (row - 1)] == 0 else row
+
+
 def modes_of(n, form):
     """The modes of an accepted form, in the order in which they stand."""
     re, im = _values(n, form)

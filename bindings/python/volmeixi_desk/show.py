@@ -1,6 +1,6 @@
 """Requests and sheets as text in decimals: the form with its blocks marked, the modes, the vectors."""
 
-from .modes import modes_of, through
+from .modes import first_row, modes_of, through
 from .texts import ANSWERS, Sheet, count
 
 WIDTH = 100  # characters of a line, beyond which a matrix goes on below
@@ -97,10 +97,6 @@ def vector_lines(n, modes, factor, digits):
     return _panels([list(line) for line in zip(*columns)], heads, [str(i) for i in range(n)])
 
 
-def _first_row(n, form, row):
-    return row - 1 if row > 0 and not form[row + n * (row - 1)] == 0 else row
-
-
 def part_lines(part, digits, with_factor, through_factor):
     """A request or a sheet."""
     if isinstance(part, Sheet):
@@ -109,7 +105,7 @@ def part_lines(part, digits, with_factor, through_factor):
         moved = part.landed if part.declined == 0 else None
         lines = [f"Sheet of {count(part.n, 'row')}: answer 0, landed in row {part.landed}, {count(part.swaps, 'swap')}, {part.declined} declined."]
     else:
-        moved = _first_row(part.n, part.form, part.start)
+        moved = first_row(part.n, part.form, part.start)
         lines = [f"Request of {count(part.n, 'row')}: move the block in row {part.start} to row {part.goal}, {'with a' if part.factor else 'without'} factor."]
     modes = modes_of(part.n, part.form)
     lines += ["", "Form (blocks in brackets):", ""] + form_lines(part.n, part.form, modes, digits)
