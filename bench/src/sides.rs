@@ -14,8 +14,9 @@ unsafe extern "C" {
         u_len: usize,
         from: usize,
         to: usize,
-        out: *mut usize,
-        out_len: usize,
+        landed: *mut usize,
+        swaps: *mut usize,
+        declined: *mut usize,
     ) -> usize;
     fn vx_evd_from_real_schur(n: usize, t: *const f64, t_len: usize, v: *mut f64, v_len: usize) -> usize;
     fn vx_block_values(
@@ -62,11 +63,22 @@ impl Side {
 /// The number and the counts: landed, swaps, declined.
 #[inline(always)]
 pub fn our_reorder(n: usize, t: &mut [f64], u: &mut [f64], from: usize, to: usize) -> (usize, [usize; 3]) {
-    let mut out = [0; 3];
+    let [mut landed, mut swaps, mut declined] = [0; 3];
     let number = unsafe {
-        vx_reorder_schur(n, t.as_mut_ptr(), t.len(), u.as_mut_ptr(), u.len(), from, to, out.as_mut_ptr(), out.len())
+        vx_reorder_schur(
+            n,
+            t.as_mut_ptr(),
+            t.len(),
+            u.as_mut_ptr(),
+            u.len(),
+            from,
+            to,
+            &mut landed,
+            &mut swaps,
+            &mut declined,
+        )
     };
-    (number, out)
+    (number, [landed, swaps, declined])
 }
 
 #[inline(never)]

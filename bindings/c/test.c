@@ -1,5 +1,5 @@
 /* The test of volmeixi.h: calls every function, checks document 01's worked values, every number
- * that can come back, and that a call which is turned away leaves all its buffers.
+ * that can come back, and that a call which is turned away leaves all its buffers and gives zeros.
  * Prints each check that failed and the count of those that passed; ends with 1 if any failed. */
 #include "volmeixi.h"
 
@@ -38,8 +38,7 @@ static void fill(double *buffer, double x)
 
 /* What the buffers of a call hold before it, and a copy that the call does not see. */
 static double t[MOST], u[MOST], old_t[MOST], old_u[MOST];
-static size_t counts[4];
-static const size_t old_counts[4] = {9, 9, 9, 9};
+static size_t landed, swaps, declined;
 
 static void lend(const double *form, size_t len)
 {
@@ -48,13 +47,12 @@ static void lend(const double *form, size_t len)
     memcpy(t, form, len * sizeof *form);
     memcpy(old_t, t, sizeof t);
     memcpy(old_u, u, sizeof u);
-    memcpy(counts, old_counts, sizeof counts);
+    landed = swaps = declined = 9;
 }
 
 static int untouched(void)
 {
-    return memcmp(t, old_t, sizeof t) == 0 && memcmp(u, old_u, sizeof u) == 0 &&
-           memcmp(counts, old_counts, sizeof counts) == 0;
+    return memcmp(t, old_t, sizeof t) == 0 && memcmp(u, old_u, sizeof u) == 0;
 }
 
 static const double zeros[MOST];
@@ -91,55 +89,58 @@ static void arithmetic(void)
 
 static void rotations(void)
 {
-    double out[4] = {9, 9, 9, 9};
-    CHECK(vx_rotg(3, 4, out, 2) == VX_BUFFER_LENGTH);
-    CHECK(vx_adjoint(1, 0, out, 3) == VX_BUFFER_LENGTH);
-    CHECK(vx_apply(1, 0, 5, 6, out, 3) == VX_BUFFER_LENGTH);
-    CHECK(out[0] == 9 && out[1] == 9 && out[2] == 9 && out[3] == 9);
+    double c = 9, s = 9, r = 9, x = 5, y = 7;
+    vx_rotg(3, 4, &c, &s, &r);
+    SAME(c, 0.6);
+    SAME(s, -0.8);
+    SAME(r, 5.0);
+    vx_rotg(7, -0.0, &c, &s, &r);
+    SAME(s, 0.0);
+    vx_rotg(0, 7, &c, &s, &r);
+    SAME(s, -1.0);
 
-    CHECK(vx_rotg(3, 4, out, 3) == VX_DONE);
-    SAME(out[0], 0.6);
-    SAME(out[1], -0.8);
-    SAME(out[2], 5.0);
-    CHECK(out[3] == 9);
-    CHECK(vx_rotg(7, -0.0, out, 3) == VX_DONE);
-    SAME(out[1], 0.0);
-    CHECK(vx_rotg(0, 7, out, 3) == VX_DONE);
-    SAME(out[1], -1.0);
+    vx_adjoint(1, 0, &c, &s);
+    SAME(c, 1.0);
+    SAME(s, -0.0);
 
-    CHECK(vx_adjoint(1, 0, out, 2) == VX_DONE);
-    SAME(out[0], 1.0);
-    SAME(out[1], -0.0);
-
-    CHECK(vx_apply(2, 3, 5, 7, out, 2) == VX_DONE);
-    SAME(out[0], 31.0);
-    SAME(out[1], -1.0);
+    vx_apply(2, 3, x, y, &x, &y);
+    SAME(x, 31.0);
+    SAME(y, -1.0);
 }
 
 static void reflections(void)
 {
-    double tail[4] = {1, 1, 1, 1}, out[4] = {9, 9, 9, 9};
-    CHECK(vx_make_householder_in_place(1, tail, 4, out, 4) == VX_TAIL_LENGTH);
-    CHECK(vx_make_householder_in_place(1, NULL, 0, out, 4) == VX_TAIL_LENGTH);
-    CHECK(vx_make_householder_in_place(1, tail, 3, out, 3) == VX_BUFFER_LENGTH);
+    double tail[4] = {1, 1, 1, 1}, head = 9, tau = 9, inv = 9, norm = 9;
+    CHECK(vx_make_householder_in_place(1, tail, 4, &head, &tau, &inv, &norm) == VX_TAIL_LENGTH);
     CHECK(tail[0] == 1 && tail[1] == 1 && tail[2] == 1 && tail[3] == 1);
-    CHECK(out[0] == 9 && out[1] == 9 && out[2] == 9 && out[3] == 9);
+    SAME(head, 0.0);
+    SAME(tau, 0.0);
+    SAME(inv, 0.0);
+    SAME(norm, 0.0);
+    CHECK(vx_make_householder_in_place(1, NULL, 0, &head, &tau, &inv, &norm) == VX_TAIL_LENGTH);
 
-    CHECK(vx_make_householder_in_place(1, tail, 3, out, 4) == VX_DONE);
+    CHECK(vx_make_householder_in_place(1, tail, 3, &head, &tau, &inv, &norm) == VX_DONE);
     CHECK(tail[0] != 1 && tail[3] == 1);
 
     /* The sign is the head times the rounded reciprocal of its magnitude: for 49 it is not 1. */
     tail[0] = 1;
-    CHECK(vx_make_householder_in_place(49, tail, 1, out, 4) == VX_DONE);
+    CHECK(vx_make_householder_in_place(49, tail, 1, &head, &tau, &inv, &norm) == VX_DONE);
     CHECK(49 * (1.0 / 49) != 1);
-    SAME(out[0], -(49 * (1.0 / 49) * out[3]));
-    SAME(tail[0], out[2]);
+    SAME(head, -(49 * (1.0 / 49) * norm));
+    SAME(tail[0], inv);
 
     tail[0] = 0x1p-1023;
-    CHECK(vx_make_householder_in_place(0x1p-1023, tail, 1, out, 4) == VX_DONE);
+    CHECK(vx_make_householder_in_place(0x1p-1023, tail, 1, &head, &tau, &inv, &norm) == VX_DONE);
     SAME(tail[0], 0x1p-1023);
-    SAME(out[0], 0.0);
-    SAME(out[1], INFINITY);
+    SAME(head, 0.0);
+    SAME(tau, INFINITY);
+}
+
+/* The ten results of vx_lahqr_schur22, in their order. */
+static void standardise(double a, double b, double c, double d, double *x)
+{
+    CHECK(vx_lahqr_schur22(a, b, c, d, x, x + 1, x + 2, x + 3, x + 4, x + 5, x + 6, x + 7, x + 8,
+                           x + 9) == VX_DONE);
 }
 
 static void blocks_of_two(void)
@@ -147,43 +148,38 @@ static void blocks_of_two(void)
     const double real[10] = {7, -2, 0, 5, 7, 0, 5, 0, 0, 1};
     const double complex[10] = {0, 1, -1, 0, 0, 1, 0, -1, 1, 0};
     const double tl[4] = {3, 0, 0, 3}, tr[4] = {1, 0, 0, 1}, b[4] = {2, 4, 6, 8};
-    const double x[5] = {1, 2, 3, 4, 1};
-    double out[10];
-    for (size_t k = 0; k < 10; k++)
-        out[k] = 9;
-    CHECK(vx_lahqr_schur22(5, 0, 2, 7, out, 9) == VX_BUFFER_LENGTH);
-    CHECK(vx_lasy2(tl, 3, tr, 4, b, 4, out, 5) == VX_BUFFER_LENGTH);
-    CHECK(vx_lasy2(tl, 4, tr, 3, b, 4, out, 5) == VX_BUFFER_LENGTH);
-    CHECK(vx_lasy2(tl, 4, tr, 4, b, 3, out, 5) == VX_BUFFER_LENGTH);
-    CHECK(vx_lasy2(tl, 4, tr, 4, b, 4, out, 6) == VX_BUFFER_LENGTH);
-    for (size_t k = 0; k < 10; k++)
-        CHECK(out[k] == 9);
-
-    CHECK(vx_lahqr_schur22(5, 0, 2, 7, out, 10) == VX_DONE);
+    const double solution[4] = {1, 2, 3, 4};
+    double out[10], x[4], scale;
+    standardise(5, 0, 2, 7, out);
     for (size_t k = 0; k < 10; k++)
         CHECK(out[k] == real[k]);
-    CHECK(vx_lahqr_schur22(0, 1, -1, 0, out, 10) == VX_DONE);
+    standardise(0, 1, -1, 0, out);
     for (size_t k = 0; k < 10; k++)
         CHECK(out[k] == complex[k]);
 
-    CHECK(vx_lasy2(tl, 4, tr, 4, b, 4, out, 5) == VX_DONE);
-    for (size_t k = 0; k < 5; k++)
-        SAME(out[k], x[k]);
+    vx_lasy2(tl, tr, b, x, &scale);
+    for (size_t k = 0; k < 4; k++)
+        SAME(x[k], solution[k]);
+    SAME(scale, 1.0);
+    vx_lasy2(tr, tl, tr, x, &scale); /* const matrices may be one and the same */
+    SAME(x[0], -0.5);
 }
 
 /* As README.md has it. */
 static void example(void)
 {
     double t[9] = {1, 0, 0, 0, 2, 0, 0, 0, 3};
-    size_t out[3];
-    CHECK(vx_reorder_schur(3, t, 9, NULL, 0, 0, 2, out, 3) == VX_DONE);
+    size_t landed, swaps, declined;
+    size_t answer = vx_reorder_schur(3, t, 9, NULL, 0, 0, 2, &landed, &swaps, &declined);
+    CHECK(answer == VX_DONE);
     CHECK(t[0] == 2 && t[4] == 3 && t[8] == 1);
-    CHECK(out[0] == 2 && out[1] == 2 && out[2] == 0); /* landed, swaps, declined */
+    CHECK(landed == 2 && swaps == 2 && declined == 0);
 }
 
-static size_t move(size_t n, size_t t_len, size_t u_len, size_t from, size_t to, size_t out_len)
+static size_t move(size_t n, size_t t_len, size_t u_len, size_t from, size_t to)
 {
-    return vx_reorder_schur(n, t, t_len, u_len ? u : NULL, u_len, from, to, counts, out_len);
+    return vx_reorder_schur(n, t, t_len, u_len ? u : NULL, u_len, from, to, &landed, &swaps,
+                            &declined);
 }
 
 static void moves(void)
@@ -192,59 +188,60 @@ static void moves(void)
     const double moved_t[4] = {2, 0, 0, 1}, moved_u[4] = {0, 1, -1, 0};
 
     lend(one_two_three, 9);
-    CHECK(move(3, 9, 0, 0, 2, 3) == VX_DONE);
+    CHECK(move(3, 9, 0, 0, 2) == VX_DONE);
     CHECK(t[0] == 2 && t[4] == 3 && t[8] == 1);
-    CHECK(counts[0] == 2 && counts[1] == 2 && counts[2] == 0);
+    CHECK(landed == 2 && swaps == 2 && declined == 0);
     lend(one_two_three, 9);
-    CHECK(move(3, 9, 9, 2, 0, 3) == VX_DONE);
+    CHECK(move(3, 9, 9, 2, 0) == VX_DONE);
     CHECK(t[0] == 3 && t[4] == 1 && t[8] == 2);
-    CHECK(counts[0] == 0 && counts[1] == 2 && counts[2] == 0);
+    CHECK(landed == 0 && swaps == 2 && declined == 0);
 
     lend(one_two, 4);
     memcpy(u, unit, sizeof unit);
-    CHECK(move(2, 4, 4, 0, 1, 3) == VX_DONE);
+    CHECK(move(2, 4, 4, 0, 1) == VX_DONE);
     for (size_t k = 0; k < 4; k++) {
         SAME(t[k], moved_t[k]);
         SAME(u[k], moved_u[k]);
     }
 
     lend(turn, 4);
-    CHECK(move(2, 4, 0, 1, 0, 3) == VX_DONE);
-    CHECK(counts[0] == 0 && counts[1] == 0 && counts[2] == 0);
+    CHECK(move(2, 4, 0, 1, 0) == VX_DONE);
+    CHECK(landed == 0 && swaps == 0 && declined == 0);
     CHECK(memcmp(t, old_t, sizeof t) == 0);
 
     lend(alike, 16);
-    CHECK(move(4, 16, 0, 0, 2, 3) == VX_DONE);
-    CHECK(counts[0] == 2 && counts[1] == 1 && counts[2] == 1);
+    CHECK(move(4, 16, 0, 0, 2) == VX_DONE);
+    CHECK(landed == 2 && swaps == 1 && declined == 1);
     CHECK(memcmp(t, old_t, sizeof t) == 0);
 
     lend(zeros, 0);
-    CHECK(move(64, 64 * 64, 0, 63, 0, 3) == VX_DONE);
-    CHECK(counts[0] == 0 && counts[1] == 63);
+    CHECK(move(64, 64 * 64, 0, 63, 0) == VX_DONE);
+    CHECK(landed == 0 && swaps == 63);
 }
 
 static void exchanges(void)
 {
     lend(one_two_three, 9);
-    CHECK(vx_schur_swap(3, t, 9, NULL, 0, 1, 1, 1, counts, 2) == VX_DONE);
+    CHECK(vx_schur_swap(3, t, 9, NULL, 0, 1, 1, 1, &swaps, &declined) == VX_DONE);
     CHECK(t[0] == 1 && t[4] == 3 && t[8] == 2);
-    CHECK(counts[0] == 1 && counts[1] == 0 && counts[2] == 9);
+    CHECK(swaps == 1 && declined == 0);
 }
 
-/* The number that a call on the lent buffers gives, all of which it must leave. */
-static size_t refused_move(size_t n, size_t t_len, size_t u_len, size_t from, size_t to,
-                           size_t out_len)
+/* The number that a call on the lent buffers gives: it must leave them all, and count nothing. */
+static size_t refused_move(size_t n, size_t t_len, size_t u_len, size_t from, size_t to)
 {
-    size_t number = move(n, t_len, u_len, from, to, out_len);
-    CHECK(untouched());
+    landed = swaps = declined = 9;
+    size_t number = move(n, t_len, u_len, from, to);
+    CHECK(untouched() && landed == 0 && swaps == 0 && declined == 0);
     return number;
 }
 
 static size_t refused_exchange(size_t n, size_t t_len, size_t u_len, size_t j0, size_t n1,
-                               size_t n2, size_t out_len)
+                               size_t n2)
 {
-    size_t number = vx_schur_swap(n, t, t_len, u, u_len, j0, n1, n2, counts, out_len);
-    CHECK(untouched());
+    swaps = declined = 9;
+    size_t number = vx_schur_swap(n, t, t_len, u, u_len, j0, n1, n2, &swaps, &declined);
+    CHECK(untouched() && swaps == 0 && declined == 0);
     return number;
 }
 
@@ -257,30 +254,28 @@ static void refusals(void)
     touching[1] = touching[5] = 1;
 
     lend(one_two_three, 9);
-    CHECK(refused_move(0, 0, 0, 0, 0, 3) == VX_ROWS);
-    CHECK(refused_move(65, 65 * 65, 0, 0, 1, 3) == VX_ROWS);
-    CHECK(refused_move(3, 8, 0, 0, 1, 3) == VX_FORM_LENGTH);
-    CHECK(refused_move(3, 9, 8, 0, 1, 3) == VX_BUFFER_LENGTH);
-    CHECK(refused_move(3, 9, 9, 0, 1, 4) == VX_BUFFER_LENGTH);
-    CHECK(refused_move(3, 9, 9, 3, 0, 3) == VX_POSITION);
-    CHECK(refused_move(3, 9, 9, 0, 3, 3) == VX_POSITION);
-    CHECK(refused_exchange(0, 0, 0, 0, 1, 1, 2) == VX_ROWS);
-    CHECK(refused_exchange(65, 65 * 65, 0, 0, 1, 1, 2) == VX_ROWS);
-    CHECK(refused_exchange(3, 10, 9, 0, 1, 1, 2) == VX_FORM_LENGTH);
-    CHECK(refused_exchange(3, 9, 1, 0, 1, 1, 2) == VX_BUFFER_LENGTH);
-    CHECK(refused_exchange(3, 9, 9, 0, 1, 1, 3) == VX_BUFFER_LENGTH);
-    CHECK(refused_exchange(3, 9, 9, 3, 1, 1, 2) == VX_POSITION);
-    CHECK(refused_exchange(3, 9, 9, 0, 3, 1, 2) == VX_BLOCK_SIZE);
-    CHECK(refused_exchange(3, 9, 9, 0, 1, 0, 2) == VX_BLOCK_SIZE);
-    CHECK(refused_exchange(3, 9, 9, 2, 1, 1, 2) == VX_PAST_END);
+    CHECK(refused_move(0, 0, 0, 0, 0) == VX_ROWS);
+    CHECK(refused_move(65, 65 * 65, 0, 0, 1) == VX_ROWS);
+    CHECK(refused_move(3, 8, 0, 0, 1) == VX_FORM_LENGTH);
+    CHECK(refused_move(3, 9, 8, 0, 1) == VX_BUFFER_LENGTH);
+    CHECK(refused_move(3, 9, 9, 3, 0) == VX_POSITION);
+    CHECK(refused_move(3, 9, 9, 0, 3) == VX_POSITION);
+    CHECK(refused_exchange(0, 0, 0, 0, 1, 1) == VX_ROWS);
+    CHECK(refused_exchange(65, 65 * 65, 0, 0, 1, 1) == VX_ROWS);
+    CHECK(refused_exchange(3, 10, 9, 0, 1, 1) == VX_FORM_LENGTH);
+    CHECK(refused_exchange(3, 9, 1, 0, 1, 1) == VX_BUFFER_LENGTH);
+    CHECK(refused_exchange(3, 9, 9, 3, 1, 1) == VX_POSITION);
+    CHECK(refused_exchange(3, 9, 9, 0, 3, 1) == VX_BLOCK_SIZE);
+    CHECK(refused_exchange(3, 9, 9, 0, 1, 0) == VX_BLOCK_SIZE);
+    CHECK(refused_exchange(3, 9, 9, 2, 1, 1) == VX_PAST_END);
     lend(turn, 4);
-    CHECK(refused_exchange(2, 4, 4, 0, 1, 1, 2) == VX_ACROSS);
+    CHECK(refused_exchange(2, 4, 4, 0, 1, 1) == VX_ACROSS);
     lend(deep, 9);
-    CHECK(refused_move(3, 9, 9, 0, 1, 3) == VX_DEEP_ENTRY);
-    CHECK(refused_exchange(3, 9, 9, 0, 1, 1, 2) == VX_DEEP_ENTRY);
+    CHECK(refused_move(3, 9, 9, 0, 1) == VX_DEEP_ENTRY);
+    CHECK(refused_exchange(3, 9, 9, 0, 1, 1) == VX_DEEP_ENTRY);
     lend(touching, 9);
-    CHECK(refused_move(3, 9, 9, 0, 1, 3) == VX_TOUCHING);
-    CHECK(refused_exchange(3, 9, 9, 0, 1, 1, 2) == VX_TOUCHING);
+    CHECK(refused_move(3, 9, 9, 0, 1) == VX_TOUCHING);
+    CHECK(refused_exchange(3, 9, 9, 0, 1, 1) == VX_TOUCHING);
 
     /* Values and vectors, whose results would go to u. */
     CHECK(vx_block_values(0, t, 0, u, 0, u + 64, 0) == VX_ROWS);
@@ -320,6 +315,17 @@ static void values_and_vectors(void)
     CHECK(vx_block_values(64, zeros, 64 * 64, u, 64, u + 64, 64) == VX_DONE);
 }
 
+/* Each number has a sentence of its own, and those that no call gives have one too. */
+static void messages(void)
+{
+    for (size_t k = 0; k <= VX_TAIL_LENGTH; k++)
+        for (size_t j = 0; j < k; j++)
+            CHECK(strcmp(vx_message(j), vx_message(k)) != 0);
+    CHECK(strcmp(vx_message(VX_POSITION), "a position or column number is not below n") == 0);
+    CHECK(strcmp(vx_message(12), vx_message((size_t)-1)) == 0);
+    CHECK(strcmp(vx_message(12), vx_message(VX_TAIL_LENGTH)) != 0);
+}
+
 int main(void)
 {
     arithmetic();
@@ -331,6 +337,7 @@ int main(void)
     exchanges();
     refusals();
     values_and_vectors();
+    messages();
     printf("%d checks passed, %d failed\n", passed, failed);
     return failed != 0;
 }

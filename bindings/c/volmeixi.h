@@ -5,12 +5,21 @@
  * below the diagonal, at (j + 1, j), is not zero (a NaN is not zero, minus zero is); all other rows
  * are 1-blocks. A factor has the same layout.
  *
- * Every buffer is a pointer and the number of its places; with 0 places it is not looked at and
- * the pointer may be NULL. Buffers of one call must not overlap, save those that are all const.
+ * A buffer is a pointer and the number of its places; with 0 places it is not looked at and the
+ * pointer may be NULL. A single result is a pointer to one number, and a matrix of two rows a
+ * pointer to four: neither may be NULL. The results are the last parameters, and what they held
+ * before is not read.
+ *
+ * What a call is given must not overlap: no byte may belong to two of its buffers, matrices and
+ * results. Only buffers and matrices that are const may share bytes, with each other: vx_lasy2 may
+ * be given the same matrix twice. Numbers are given by value, so vx_apply(c, s, x, y, &x, &y) is
+ * fine; vx_block_values with re and im inside t, or a factor that is the form, is not, and nothing
+ * holds of the results then.
  *
  * A call that gives a size_t gives 0 when it was carried out, or the number of the first line
- * below that applies. Then it has changed no buffer at all. Each call names the lines that it can
- * give. No number of a form is refused: NaN, infinities and subnormals are worked with.
+ * below that applies; vx_message has its sentence. Turned away, it has changed no buffer, and its
+ * single results are 0. Each call names the lines that it can give. No number of a form is
+ * refused: NaN, infinities and subnormals are worked with.
  */
 #ifndef VOLMEIXI_H
 #define VOLMEIXI_H
@@ -35,6 +44,42 @@ enum {
     VX_TAIL_LENGTH = 11   /* a reflection's tail has not 1, 2 or 3 numbers */
 };
 
+/* The sentence for a number, without a full stop: a constant text, never NULL. 1 is what the
+ * program `sheet` gives for a text that it cannot read; no call here gives it. */
+static inline const char *vx_message(size_t number)
+{
+    switch (number) {
+    case VX_DONE:
+        return "carried out";
+    case 1:
+        return "the text of the request is not laid out as it must be";
+    case VX_ROWS:
+        return "the number of rows n is 0 or above 64";
+    case VX_FORM_LENGTH:
+        return "the form's length is not n times n";
+    case VX_BUFFER_LENGTH:
+        return "the length of a further buffer is wrong: a factor needs n times n numbers or none, "
+               "vectors n times n, each part of block values n";
+    case VX_DEEP_ENTRY:
+        return "the form has an entry more than one row below the diagonal that is not zero";
+    case VX_TOUCHING:
+        return "the form has two neighbouring entries just below the diagonal that are both not "
+               "zero";
+    case VX_POSITION:
+        return "a position or column number is not below n";
+    case VX_BLOCK_SIZE:
+        return "a block size of the exchange is not 1 or 2";
+    case VX_PAST_END:
+        return "the rows of the exchange run past the last row of the form";
+    case VX_ACROSS:
+        return "a 2-block lies across the upper edge, the middle or the lower edge of the exchange";
+    case VX_TAIL_LENGTH:
+        return "the tail of a reflection has not 1, 2 or 3 numbers";
+    default:
+        return "a number that this header does not know";
+    }
+}
+
 /* ---- Moves
  *
  * A swap of two 2-blocks may decline: they stay in place (and are standardised), and a move goes on
@@ -44,16 +89,16 @@ enum {
 /* Moves the block in row `from` to row `to`, by exchanges of neighbouring blocks, and applies the
  * same rotations and reflections to the columns of the factor u. A position inside a 2-block means
  * the block's first row. u_len is n * n, or 0 for no factor.
- * out, 3 places: the row landed on; the number of swaps; how many of these declined.
- * Gives 0, 2, 3, 4 (u_len, out_len), 5, 6 or 7 (from, to). */
+ * Results: the row landed on; the number of swaps; how many of these declined.
+ * Gives 0, 2, 3, 4 (u_len), 5, 6 or 7 (from, to). */
 size_t vx_reorder_schur(size_t n, double *t, size_t t_len, double *u, size_t u_len, size_t from,
-                        size_t to, size_t *out, size_t out_len);
+                        size_t to, size_t *landed, size_t *swaps, size_t *declined);
 
 /* Exchanges the n1 rows from row j0 on with the n2 rows below them. u as in vx_reorder_schur.
- * out, 2 places: the number of swaps; how many of these declined.
- * Gives 0, 2, 3, 4 (u_len, out_len), 5, 6, 7 (j0), 8, 9 or 10. */
+ * Results: the number of swaps; how many of these declined.
+ * Gives 0, 2, 3, 4 (u_len), 5, 6, 7 (j0), 8, 9 or 10. */
 size_t vx_schur_swap(size_t n, double *t, size_t t_len, double *u, size_t u_len, size_t j0,
-                     size_t n1, size_t n2, size_t *out, size_t out_len);
+                     size_t n1, size_t n2, size_t *swaps, size_t *declined);
 
 /* ---- Values and vectors */
 
@@ -71,43 +116,41 @@ size_t vx_block_values(size_t n, const double *t, size_t t_len, double *re, size
  * Gives 0, 2, 3, 4 (v_len), 5 or 6. */
 size_t vx_evd_from_real_schur(size_t n, const double *t, size_t t_len, double *v, size_t v_len);
 
-/* ---- Blocks of two rows */
+/* ---- Blocks of two rows: nothing is turned away */
 
 /* Standardises the block of rows (a, b) and (c, d).
- * out, 10 places: the new a, b, c, d; the real and the imaginary part of the first value, then of
- * the second; cs and sn of the rotation. The values are complex if the new c is not zero.
- * Gives 0 or 4 (out_len). */
-size_t vx_lahqr_schur22(double a, double b, double c, double d, double *out, size_t out_len);
+ * Results: the new a, b, c, d; the real and the imaginary part of the first value, then of the
+ * second; cs and sn of the rotation. The values are complex if the new c is not zero.
+ * Gives 0 always. */
+size_t vx_lahqr_schur22(double a, double b, double c, double d, double *new_a, double *new_b,
+                        double *new_c, double *new_d, double *re1, double *im1, double *re2,
+                        double *im2, double *cs, double *sn);
 
-/* Solves tl * x - x * tr = scale * b for x. tl, tr and b have 4 places each, column after column.
- * out, 5 places: x, column after column; scale.
- * Gives 0 or 4 (any of the four lengths). */
-size_t vx_lasy2(const double *tl, size_t tl_len, const double *tr, size_t tr_len, const double *b,
-                size_t b_len, double *out, size_t out_len);
+/* Solves tl * x - x * tr = scale * b for x. tl, tr, b and x have 4 places each, column after
+ * column.
+ * Results: x; scale. */
+void vx_lasy2(const double *tl, const double *tr, const double *b, double *x, double *scale);
 
-/* ---- Rotations and reflections */
+/* ---- Rotations and reflections: only a reflection's tail is turned away */
 
 /* The rotation with c * p - s * q = r and s * p + c * q = 0, up to rounding.
- * out, 3 places: c, s, r.
- * Gives 0 or 4 (out_len). */
-size_t vx_rotg(double p, double q, double *out, size_t out_len);
+ * Results: c; s; r. */
+void vx_rotg(double p, double q, double *c, double *s, double *r);
 
 /* The rotation back: s negated, a zero's sign too.
- * out, 2 places: c, s.
- * Gives 0 or 4 (out_len). */
-size_t vx_adjoint(double c, double s, double *out, size_t out_len);
+ * Results: its c; its s. */
+void vx_adjoint(double c, double s, double *new_c, double *new_s);
 
 /* The rotation applied on the right to one pair.
- * out, 2 places: c * x + s * y, c * y - s * x.
- * Gives 0 or 4 (out_len). */
-size_t vx_apply(double c, double s, double x, double y, double *out, size_t out_len);
+ * Results: c * x + s * y; c * y - s * x. */
+void vx_apply(double c, double s, double x, double y, double *new_x, double *new_y);
 
 /* The reflection that takes the head and the tail to a new head and zeros. The tail, 1 to 3 places,
  * becomes the reflection's own; if its norm is below 2^-1022 it stays, and tau is infinite.
- * out, 4 places: the new head, tau, head_with_beta_inv, the norm of head and tail.
- * Gives 0, 4 (out_len) or 11. */
-size_t vx_make_householder_in_place(double head, double *tail, size_t tail_len, double *out,
-                                    size_t out_len);
+ * Results: the new head; tau; head_with_beta_inv; the norm of head and tail.
+ * Gives 0 or 11. */
+size_t vx_make_householder_in_place(double head, double *tail, size_t tail_len, double *new_head,
+                                    double *tau, double *head_with_beta_inv, double *norm);
 
 /* ---- Arithmetic: nothing is turned away, each gives its result */
 

@@ -1,13 +1,16 @@
 """The calls of libvolmeixi for Python: reordering of real Schur forms, and its parts.
 
-A form is n rows by n columns of float, column after column: row i, column j stands at i + n * j.
-Rows and columns count from 0; n is 1 to 64. A 2-block stands where the entry just below the
-diagonal, at (j + 1, j), is not zero (a NaN is not zero, minus zero is); all other rows are
-1-blocks. A factor has the same layout.
+A form is n rows by n columns of float, n 1 to 64. It is an array of two dimensions, of shape (n, n),
+or one of n * n numbers, column after column: row i, column j stands at i + n * j. Rows and columns
+count from 0. A 2-block stands where the entry just below the diagonal, at (j + 1, j), is not zero (a
+NaN is not zero, minus zero is); all other rows are 1-blocks. A factor and vectors have the same
+layout.
 
 A buffer that a call writes is an array('d') or anything with the same kind of memory, such as a
 NumPy array of float64; one of two dimensions must be in Fortran order. What a call only reads may
-also be a list. A call that is turned away raises Refusal and has changed no buffer.
+also be a list, read-only, in C order or with gaps. Arrays that a call makes are NumPy's where the
+form is, and array('d') otherwise. A call that is turned away raises Refusal and has changed no
+buffer.
 
 The shared library, made by bindings/python/build, is VOLMEIXI_LIBRARY, or libvolmeixi.so beside
 this file, or the one in the repository's target/bindings.
@@ -21,16 +24,51 @@ if __name__ == "__main__":  # before the library is asked for: the command says 
     raise SystemExit(volmeixi_desk.command.main())
 
 import ctypes
+import math
 import operator
 import os
 import pathlib
+import sys
 from array import array
 from typing import NamedTuple
+
+__all__ = [
+    "Exchanged",
+    "Moved",
+    "Reflection",
+    "Refusal",
+    "Rotation",
+    "RotationWith",
+    "Standardised",
+    "Sylvester",
+    "abs1",
+    "abs2",
+    "abs_",
+    "adjoint",
+    "apply",
+    "block_values",
+    "column",
+    "evd_from_real_schur",
+    "fmax",
+    "fmin",
+    "hypot",
+    "lahqr_schur22",
+    "lasy2",
+    "make_householder_in_place",
+    "mul_pow2",
+    "norm_l2",
+    "recip",
+    "reorder_schur",
+    "rotg",
+    "schur_swap",
+    "sqrt",
+]
 
 _MESSAGES = {
     2: "the number of rows n is 0 or above 64",
     3: "the form's length is not n times n",
-    4: "the length of a further buffer is wrong: a factor and vectors need n times n numbers, block values n",
+    4: "the length of a further buffer is wrong: a factor needs n times n numbers or none, "
+    "vectors n times n, each part of block values n",
     5: "the form has an entry more than one row below the diagonal that is not zero",
     6: "the form has two neighbouring entries just below the diagonal that are both not zero",
     7: "a position or column number is not below n",
@@ -42,10 +80,14 @@ _MESSAGES = {
 
 
 class Refusal(ValueError):
-    """Why a call was turned away; number is that of the first line that applies, 2 to 11."""
+    """Why a call was turned away; number is that of the first line that applies, 2 to 11.
 
-    def __init__(self, number):
-        super().__init__(_MESSAGES[number])
+    Of lines 3 and 4 the message names the buffer and what it is.
+    """
+
+    def __init__(self, number, message=None):
+        unknown = f"turned away with number {number}, which is not known here"
+        super().__init__(message or _MESSAGES.get(number, unknown))
         self.number = number
 
 
@@ -117,33 +159,34 @@ class Sylvester(NamedTuple):
 
 _FLOAT = ctypes.c_double
 _SIZE = ctypes.c_size_t
-_FLOATS = (ctypes.POINTER(_FLOAT), _SIZE)
-_SIZES = (ctypes.POINTER(_SIZE), _SIZE)
+_TO_FLOAT = ctypes.POINTER(_FLOAT)
+_TO_SIZE = ctypes.POINTER(_SIZE)
+_FLOATS = (_TO_FLOAT, _SIZE)
 
-# What each call is given; those of _RESULTS give a float, the others a number.
+# What each call gives, and what it is given: a buffer is its first place and its length, a single
+# result or a matrix of two rows its first place alone.
 _GIVEN = {
-    "abs": (_FLOAT,),
-    "abs1": (_FLOAT,),
-    "abs2": (_FLOAT,),
-    "recip": (_FLOAT,),
-    "mul_pow2": (_FLOAT, _FLOAT),
-    "fmax": (_FLOAT, _FLOAT),
-    "fmin": (_FLOAT, _FLOAT),
-    "sqrt": (_FLOAT,),
-    "hypot": (_FLOAT, _FLOAT),
-    "norm_l2": _FLOATS,
-    "rotg": (_FLOAT, _FLOAT, *_FLOATS),
-    "adjoint": (_FLOAT, _FLOAT, *_FLOATS),
-    "apply": (_FLOAT, _FLOAT, _FLOAT, _FLOAT, *_FLOATS),
-    "make_householder_in_place": (_FLOAT, *_FLOATS, *_FLOATS),
-    "lahqr_schur22": (_FLOAT, _FLOAT, _FLOAT, _FLOAT, *_FLOATS),
-    "lasy2": _FLOATS * 4,
-    "schur_swap": (_SIZE, *_FLOATS, *_FLOATS, _SIZE, _SIZE, _SIZE, *_SIZES),
-    "reorder_schur": (_SIZE, *_FLOATS, *_FLOATS, _SIZE, _SIZE, *_SIZES),
-    "block_values": (_SIZE, *_FLOATS, *_FLOATS, *_FLOATS),
-    "evd_from_real_schur": (_SIZE, *_FLOATS, *_FLOATS),
+    "abs": (_FLOAT, _FLOAT),
+    "abs1": (_FLOAT, _FLOAT),
+    "abs2": (_FLOAT, _FLOAT),
+    "recip": (_FLOAT, _FLOAT),
+    "mul_pow2": (_FLOAT, _FLOAT, _FLOAT),
+    "fmax": (_FLOAT, _FLOAT, _FLOAT),
+    "fmin": (_FLOAT, _FLOAT, _FLOAT),
+    "sqrt": (_FLOAT, _FLOAT),
+    "hypot": (_FLOAT, _FLOAT, _FLOAT),
+    "norm_l2": (_FLOAT, *_FLOATS),
+    "rotg": (None, *[_FLOAT] * 2, *[_TO_FLOAT] * 3),
+    "adjoint": (None, *[_FLOAT] * 2, *[_TO_FLOAT] * 2),
+    "apply": (None, *[_FLOAT] * 4, *[_TO_FLOAT] * 2),
+    "make_householder_in_place": (_SIZE, _FLOAT, *_FLOATS, *[_TO_FLOAT] * 4),
+    "lahqr_schur22": (_SIZE, *[_FLOAT] * 4, *[_TO_FLOAT] * 10),
+    "lasy2": (None, *[_TO_FLOAT] * 5),
+    "schur_swap": (_SIZE, _SIZE, *_FLOATS, *_FLOATS, *[_SIZE] * 3, *[_TO_SIZE] * 2),
+    "reorder_schur": (_SIZE, _SIZE, *_FLOATS, *_FLOATS, *[_SIZE] * 2, *[_TO_SIZE] * 3),
+    "block_values": (_SIZE, _SIZE, *_FLOATS, *_FLOATS, *_FLOATS),
+    "evd_from_real_schur": (_SIZE, _SIZE, *_FLOATS, *_FLOATS),
 }
-_RESULTS = {"abs", "abs1", "abs2", "recip", "mul_pow2", "fmax", "fmin", "sqrt", "hypot", "norm_l2"}
 
 
 def _load():
@@ -159,10 +202,10 @@ def _load():
 
 def _calls(library):
     calls = {}
-    for name, given in _GIVEN.items():
+    for name, (gives, *given) in _GIVEN.items():
         call = calls[name] = getattr(library, "vx_" + name)
+        call.restype = gives
         call.argtypes = given
-        call.restype = _FLOAT if name in _RESULTS else _SIZE
     return calls
 
 
@@ -170,17 +213,31 @@ _CALLS = _calls(_load())
 _LARGEST = _SIZE(-1).value
 
 
-def _run(name, *given):
-    """The call's number is turned into a Refusal; a buffer passes as its first place and length."""
-    flat = []
+class _Buffer(NamedTuple):
+    """Memory of floats, column after column, and the shape that it came in."""
+
+    memory: ctypes.Array
+    shape: tuple
+
+
+def _flat(given):
+    """What C is given: a buffer passes as its first place and length."""
     for part in given:
-        flat += (part, len(part)) if isinstance(part, ctypes.Array) else (part,)
-    answer = _CALLS[name](*flat)
-    if name in _RESULTS:
-        return answer
-    if answer:
-        raise Refusal(answer)
-    return None
+        yield from (part.memory, len(part.memory)) if isinstance(part, _Buffer) else (part,)
+
+
+def _run(name, *given):
+    """A call that may be turned away: its number becomes a Refusal."""
+    number = _CALLS[name](*_flat(given))
+    if number:
+        raise Refusal(number)
+
+
+def _several(name, *given, count, kind=_FLOAT):
+    """The results of a call that gives several numbers, to its last parameters."""
+    results = [kind() for _ in range(count)]
+    _run(name, *given, *map(ctypes.byref, results))
+    return [result.value for result in results]
 
 
 def _size(k):
@@ -189,98 +246,155 @@ def _size(k):
     return k if 0 <= k <= _LARGEST else _LARGEST
 
 
-def _memory(x):
-    """x, or its transpose, whose places follow each other as the columns of x do."""
+# ---- Buffers
+
+
+def _view(x):
     view = memoryview(x)
     if view.format != "d":
         raise TypeError(f"a buffer must hold float64, format 'd', not '{view.format}'")
+    return view
+
+
+def _column_wise(x):
+    """x, or its transpose, whose places follow each other as the columns of x do."""
+    view = _view(x)
     if view.c_contiguous and view.ndim == 1:
         return x
     if not view.f_contiguous:
-        raise TypeError("a buffer must be without gaps, and of two dimensions in Fortran order")
+        raise TypeError("a buffer that is written must be without gaps, and of two dimensions in Fortran order")
     return x if view.c_contiguous else x.T
 
 
 def _lent(x):
     """The memory of x itself, to be written."""
-    view = memoryview(x)
+    view = _view(x)
     if view.readonly:
         raise TypeError("a buffer that is written must not be read-only")
-    return (_FLOAT * (view.nbytes // 8)).from_buffer(_memory(x))
+    return _Buffer((_FLOAT * (view.nbytes // 8)).from_buffer(_column_wise(x)), view.shape)
 
 
 def _given(x):
-    """A copy of x, to be read."""
+    """A copy of x, to be read: of any order, read-only, with gaps, or a list."""
     try:
         memoryview(x)
     except TypeError:
         x = array("d", x)
-    x = memoryview(_memory(x))
-    return (_FLOAT * (x.nbytes // 8)).from_buffer_copy(x)
+    view = _view(x)
+    return _Buffer((_FLOAT * (view.nbytes // 8)).from_buffer_copy(view.tobytes(order="F")), view.shape)
+
+
+def _new(like, *shape):
+    """Zeros, as a NumPy array where like is one."""
+    numpy = sys.modules.get("numpy")
+    if numpy is not None and isinstance(like, numpy.ndarray):
+        return numpy.zeros(shape, order="F")
+    return array("d", bytes(8 * math.prod(shape)))
+
+
+def _said(shape):
+    return f"{shape[0]} number{'s' * (shape[0] != 1)}" if len(shape) == 1 else f"shape {shape}"
+
+
+def _rows(shape, line, what):
+    """n of a shape (n, n), or of n * n numbers; any other is refused by the line."""
+    n = math.isqrt(math.prod(shape))
+    if shape not in ((n, n), (n * n,)):
+        raise Refusal(line, f"{what} has {_said(shape)}: it needs n times n, or shape (n, n)")
+    return n
+
+
+def _fits(n, buffer, what, *shapes):
+    """Line 4, where line 2 does not apply: the buffer has one of the shapes."""
+    if 1 <= n <= 64 and buffer.shape not in shapes:
+        raise Refusal(4, f"{what} has {_said(buffer.shape)}: it needs {' or '.join(map(_said, shapes))}")
 
 
 def _apart(x, y):
     """Two buffers that are written must not share memory."""
-    start, other = ctypes.addressof(x), ctypes.addressof(y)
-    if start < other + ctypes.sizeof(y) and other < start + ctypes.sizeof(x):
+    start, other = ctypes.addressof(x.memory), ctypes.addressof(y.memory)
+    if start < other + ctypes.sizeof(y.memory) and other < start + ctypes.sizeof(x.memory):
         raise ValueError("two buffers of one call overlap")
+
+
+def _form_and_factor(t, u):
+    t, u = _lent(t), _lent(array("d") if u is None else u)
+    n = _rows(t.shape, 3, "the form t")
+    if len(u.memory):
+        _fits(n, u, "the factor u", (n * n,), (n, n), (0,))
+    _apart(t, u)
+    return n, t, u
 
 
 # ---- Moves
 
 
-def reorder_schur(n, t, u, from_, to):
+def reorder_schur(t, u, from_, to):
     """Moves the block in row from_ of the form t to row to; the factor u, or None, goes along.
 
-    A position inside a 2-block means the block's first row. Gives Moved.
+    Both are changed in place. A position inside a 2-block means the block's first row. Gives Moved.
     """
-    t, u, out = _lent(t), _lent(array("d") if u is None else u), (_SIZE * 3)()
-    _apart(t, u)
-    _run("reorder_schur", _size(n), t, u, _size(from_), _size(to), out)
-    return Moved(*out)
+    n, t, u = _form_and_factor(t, u)
+    return Moved(*_several("reorder_schur", n, t, u, _size(from_), _size(to), count=3, kind=_SIZE))
 
 
-def schur_swap(n, t, u, j0, n1, n2):
+def schur_swap(t, u, j0, n1, n2):
     """Exchanges the n1 rows from row j0 on with the n2 rows below them. Gives Exchanged."""
-    t, u, out = _lent(t), _lent(array("d") if u is None else u), (_SIZE * 2)()
-    _apart(t, u)
-    _run("schur_swap", _size(n), t, u, _size(j0), _size(n1), _size(n2), out)
-    return Exchanged(*out)
+    n, t, u = _form_and_factor(t, u)
+    return Exchanged(*_several("schur_swap", n, t, u, _size(j0), _size(n1), _size(n2), count=2, kind=_SIZE))
 
 
 # ---- Values and vectors
 
 
-def block_values(n, t, re, im):
-    """Writes the values of the form's blocks to re and im, n numbers each.
+def block_values(t, re=None, im=None):
+    """The values of the form's blocks: their real and imaginary parts, n numbers each.
 
     A 1-block gives its diagonal number and +0; a 2-block its first diagonal number twice, with m
     and then -m, where m is the root of the lower entry's magnitude times that of the upper's.
+    Written to re and im where they are lent, else to new arrays. Gives both.
     """
-    re, im = _lent(re), _lent(im)
-    _apart(re, im)
-    _run("block_values", _size(n), _given(t), re, im)
+    form = _given(t)
+    n = _rows(form.shape, 3, "the form t")
+    re, im = (_new(t, n) if part is None else part for part in (re, im))
+    lent_re, lent_im = _lent(re), _lent(im)
+    _fits(n, lent_re, "re", (n,))
+    _fits(n, lent_im, "im", (n,))
+    _apart(lent_re, lent_im)
+    _run("block_values", n, form, lent_re, lent_im)
+    return re, im
 
 
-def evd_from_real_schur(n, t, v):
-    """Writes the vectors of the form to v, n * n numbers, column after column.
+def evd_from_real_schur(t, v=None):
+    """The vectors of the form, n by n numbers, a column each.
 
     A 1-block's column is its vector; a 2-block's two columns are the real and the imaginary part.
-    A column is written from row 0 to the last row of its block; the rest stays as it was.
+    A column is written from row 0 to the last row of its block; the rest stays as it was. Written
+    to v where it is lent, else to a new array, where the rest is zeros. Gives it.
     """
-    _run("evd_from_real_schur", _size(n), _given(t), _lent(v))
+    form = _given(t)
+    n = _rows(form.shape, 3, "the form t")
+    v = _new(t, n, n) if v is None else v
+    lent = _lent(v)
+    _fits(n, lent, "v", (n * n,), (n, n))
+    _run("evd_from_real_schur", n, form, lent)
+    return v
 
 
-def column(n, v, col):
+def column(v, col):
     """Column col of the vectors v as a memoryview of n numbers, a part of v itself."""
-    n, v, col = _size(n), _lent(v), _size(col)
+    view = _view(v)
+    if not (view.c_contiguous or view.f_contiguous):
+        raise TypeError("vectors must be without gaps")
+    n = _rows(view.shape, 4, "v")
+    col = _size(col)
     if not 1 <= n <= 64:
         raise Refusal(2)
-    if len(v) != n * n:
-        raise Refusal(4)
     if n <= col:
         raise Refusal(7)
-    return memoryview(v).cast("B").cast("d")[n * col : n * col + n]
+    by_rows = view.ndim == 2 and not view.f_contiguous
+    flat = memoryview(v if by_rows else _column_wise(v)).cast("B").cast("d")
+    return flat[col::n] if by_rows else flat[n * col : n * col + n]
 
 
 # ---- Blocks of two rows
@@ -288,17 +402,23 @@ def column(n, v, col):
 
 def lahqr_schur22(a, b, c, d):
     """Standardises the block of rows (a, b) and (c, d). Gives Standardised."""
-    out = (_FLOAT * 10)()
-    _run("lahqr_schur22", a, b, c, d, out)
-    a, b, c, d, re1, im1, re2, im2, cs, sn = out
+    a, b, c, d, re1, im1, re2, im2, cs, sn = _several("lahqr_schur22", a, b, c, d, count=10)
     return Standardised(a, b, c, d, cs, sn, (complex(re1, im1), complex(re2, im2)))
 
 
+def _two_by_two(x, what):
+    x = _given(x)
+    if x.shape not in ((2, 2), (4,)):
+        raise ValueError(f"{what} has {_said(x.shape)}: it needs 4 numbers or shape (2, 2)")
+    return x.memory
+
+
 def lasy2(tl, tr, b):
-    """Solves tl * x - x * tr = scale * b for x, all 4 numbers, column after column."""
-    out = (_FLOAT * 5)()
-    _run("lasy2", _given(tl), _given(tr), _given(b), out)
-    return Sylvester(tuple(out[:4]), out[4])
+    """Solves tl * x - x * tr = scale * b for x, all of two rows. Gives Sylvester."""
+    tl, tr, b = _two_by_two(tl, "tl"), _two_by_two(tr, "tr"), _two_by_two(b, "b")
+    x = (_FLOAT * 4)()
+    (scale,) = _several("lasy2", tl, tr, b, x, count=1)
+    return Sylvester(tuple(x), scale)
 
 
 # ---- Rotations and reflections
@@ -306,23 +426,18 @@ def lasy2(tl, tr, b):
 
 def rotg(p, q):
     """The rotation with c * p - s * q = r and s * p + c * q = 0, up to rounding."""
-    out = (_FLOAT * 3)()
-    _run("rotg", p, q, out)
-    return RotationWith(Rotation(out[0], out[1]), out[2])
+    c, s, r = _several("rotg", p, q, count=3)
+    return RotationWith(Rotation(c, s), r)
 
 
 def adjoint(rot):
     """The rotation back: s negated, a zero's sign too."""
-    out = (_FLOAT * 2)()
-    _run("adjoint", *rot, out)
-    return Rotation(*out)
+    return Rotation(*_several("adjoint", *rot, count=2))
 
 
 def apply(rot, x, y):
     """The pair c * x + s * y, c * y - s * x."""
-    out = (_FLOAT * 2)()
-    _run("apply", *rot, x, y, out)
-    return tuple(out)
+    return tuple(_several("apply", *rot, x, y, count=2))
 
 
 def make_householder_in_place(head, tail):
@@ -331,60 +446,61 @@ def make_householder_in_place(head, tail):
     The tail becomes the reflection's own; if its norm is below 2**-1022 it stays, and tau is
     infinite. Gives Reflection.
     """
-    out = (_FLOAT * 4)()
-    _run("make_householder_in_place", head, _lent(tail), out)
-    return Reflection(*out)
+    tail = _lent(tail)
+    if len(tail.shape) != 1:
+        raise TypeError("a tail has one dimension")
+    return Reflection(*_several("make_householder_in_place", head, tail, count=4))
 
 
 # ---- Arithmetic: nothing is turned away
 
 
-def abs(x):
+def abs_(x):
     """The magnitude."""
-    return _run("abs", x)
+    return _CALLS["abs"](x)
 
 
 def abs1(x):
     """The same, under the name that faer has for it."""
-    return _run("abs1", x)
+    return _CALLS["abs1"](x)
 
 
 def abs2(x):
     """x * x."""
-    return _run("abs2", x)
+    return _CALLS["abs2"](x)
 
 
 def recip(x):
     """1 / x, also of zero."""
-    return _run("recip", x)
+    return _CALLS["recip"](x)
 
 
 def mul_pow2(x, p):
     """x * p."""
-    return _run("mul_pow2", x, p)
+    return _CALLS["mul_pow2"](x, p)
 
 
 def fmax(p, q):
     """p where p > q or q is a NaN, else q."""
-    return _run("fmax", p, q)
+    return _CALLS["fmax"](p, q)
 
 
 def fmin(p, q):
     """p where p < q or q is a NaN, else q."""
-    return _run("fmin", p, q)
+    return _CALLS["fmin"](p, q)
 
 
 def sqrt(x):
     """The square root of IEEE 754, also of numbers below zero: NaN."""
-    return _run("sqrt", x)
+    return _CALLS["sqrt"](x)
 
 
 def hypot(p, q):
     """Infinity if either is infinite; else NaN if either is; else g * sqrt(1 + (h / g) * (h / g))
     with the larger magnitude g and the smaller h, or +0 if g is zero."""
-    return _run("hypot", p, q)
+    return _CALLS["hypot"](p, q)
 
 
 def norm_l2(x):
     """The magnitude of the first number, then hypot with each next; of no number, +0."""
-    return _run("norm_l2", _given(x))
+    return _CALLS["norm_l2"](*_flat([_given(x)]))

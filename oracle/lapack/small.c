@@ -16,9 +16,10 @@
 #include <stdlib.h>
 #include <string.h>
 
-extern size_t vx_lahqr_schur22(double a, double b, double c, double d, double *out, size_t len);
-extern size_t vx_lasy2(const double *tl, size_t ntl, const double *tr, size_t ntr, const double *b,
-                       size_t nb, double *out, size_t len);
+extern size_t vx_lahqr_schur22(double a, double b, double c, double d, double *new_a,
+                               double *new_b, double *new_c, double *new_d, double *re1,
+                               double *im1, double *re2, double *im2, double *cs, double *sn);
+extern void vx_lasy2(const double *tl, const double *tr, const double *b, double *x, double *scale);
 extern void dlanv2_(double *a, double *b, double *c, double *d, double *rt1r, double *rt1i,
                     double *rt2r, double *rt2i, double *cs, double *sn);
 extern void dlasy2_(const int *ltranl, const int *ltranr, const int *isgn, const int *n1,
@@ -63,7 +64,8 @@ static void print(const char *who, const double *x, int n) {
 
 // a b c d, the two values, cs sn
 static void block(const double *x, double *us, double *them) {
-    vx_lahqr_schur22(x[0], x[1], x[2], x[3], us, 10);
+    vx_lahqr_schur22(x[0], x[1], x[2], x[3], us, us + 1, us + 2, us + 3, us + 4, us + 5, us + 6,
+                     us + 7, us + 8, us + 9);
     memcpy(them, x, 4 * sizeof *x);
     them[8] = them[9] = 0;
     dlanv2_(them, them + 1, them + 2, them + 3, them + 4, them + 5, them + 6, them + 7, them + 8,
@@ -74,7 +76,7 @@ static void block(const double *x, double *us, double *them) {
 static int sylvester(const double *x, double *us, double *them) {
     int no = 0, minus = -1, two = 2, info = 0;
     double xnorm;
-    vx_lasy2(x, 4, x + 4, 4, x + 8, 4, us, 5);
+    vx_lasy2(x, x + 4, x + 8, us, us + 4);
     dlasy2_(&no, &no, &minus, &two, &two, x, &two, x + 4, &two, x + 8, &two, them + 4, them, &two,
             &xnorm, &info);
     return info;

@@ -4,7 +4,7 @@ use crate::bindings::*;
 use crate::calls;
 use crate::record::Record;
 
-/// What a buffer of results holds before a call: no result, and not a NaN.
+/// What a result holds before a call: no result, and not a NaN.
 const UNWRITTEN: u64 = 0x4c0f_fee4_c0ff_ee77;
 
 /// The archive's answer, or `None` if the archive has no such call.
@@ -33,25 +33,21 @@ fn run(case: &Record) -> Option<Record> {
             x.checked(answer)
         }
         "rotg" => {
-            let f = vx_rotg()?;
-            floats(case, calls::ROTG, |out, len| unsafe { f(case.f("p"), case.f("q"), out, len) })
+            let (f, [mut c, mut s, mut r]) = (vx_rotg()?, unwritten());
+            unsafe { f(case.f("p"), case.f("q"), &mut c, &mut s, &mut r) };
+            calls::floats(Record::new(case.call), calls::ROTG, &[c, s, r])
         }
         "adjoint" => {
-            let f = vx_adjoint()?;
-            floats(case, calls::ADJOINT, |out, len| unsafe { f(case.f("c"), case.f("s"), out, len) })
+            let (f, [mut c, mut s]) = (vx_adjoint()?, unwritten());
+            unsafe { f(case.f("c"), case.f("s"), &mut c, &mut s) };
+            calls::floats(Record::new(case.call), calls::ADJOINT, &[c, s])
         }
         "apply" => {
-            let f = vx_apply()?;
-            floats(case, calls::APPLY, |out, len| unsafe {
-                f(case.f("c"), case.f("s"), case.f("x"), case.f("y"), out, len)
-            })
+            let (f, [mut x, mut y]) = (vx_apply()?, unwritten());
+            unsafe { f(case.f("c"), case.f("s"), case.f("x"), case.f("y"), &mut x, &mut y) };
+            calls::floats(Record::new(case.call), calls::APPLY, &[x, y])
         }
-        "lahqr_schur22" => {
-            let f = vx_lahqr_schur22()?;
-            floats(case, calls::STANDARDISED, |out, len| unsafe {
-                f(case.f("a"), case.f("b"), case.f("c"), case.f("d"), out, len)
-            })
-        }
+        "lahqr_schur22" => standardise(case)?,
         "make_householder_in_place" => reflect(case)?,
         "lasy2" => solve(case)?,
         "schur_swap" => exchange(case)?,
@@ -88,45 +84,54 @@ impl Given {
     }
 }
 
-/// A call with a buffer of float results; on a refusal it must stay unwritten.
-fn floats(case: &Record, keys: &[&'static str], call: impl FnOnce(*mut f64, usize) -> usize) -> Record {
-    let mut out = vec![f64::from_bits(UNWRITTEN); case.out()];
-    let number = call(out.as_mut_ptr(), out.len());
-    let answer = Record::new(case.call).num("answer", number);
-    if number == 0 {
-        return keys.iter().zip(out).fold(answer, |answer, (key, x)| answer.float(key, x));
-    }
-    let unwritten = out.iter().all(|x| x.to_bits() == UNWRITTEN);
-    if unwritten { answer } else { answer.list("results", out) }
+fn unwritten<const N: usize>() -> [f64; N] {
+    [f64::from_bits(UNWRITTEN); N]
 }
 
-/// The same for counts.
-fn counts(case: &Record, keys: &[&'static str], call: impl FnOnce(*mut usize, usize) -> usize) -> Record {
-    let mut out = vec![UNWRITTEN as usize; case.out()];
-    let number = call(out.as_mut_ptr(), out.len());
-    let answer = Record::new(case.call).num("answer", number);
-    let unwritten = out.iter().all(|x| *x == UNWRITTEN as usize);
-    if number != 0 && unwritten {
-        return answer;
-    }
-    keys.iter().zip(out).fold(answer, |answer, (key, x)| answer.num(key, x))
+fn numbered(case: &Record, number: usize) -> Record {
+    Record::new(case.call).num("answer", number)
+}
+
+fn standardise(case: &Record) -> Option<Record> {
+    let f = vx_lahqr_schur22()?;
+    let [mut a, mut b, mut c, mut d] = unwritten();
+    let [mut re1, mut im1, mut re2, mut im2, mut cs, mut sn] = unwritten();
+    let number = unsafe {
+        f(
+            case.f("a"),
+            case.f("b"),
+            case.f("c"),
+            case.f("d"),
+            &mut a,
+            &mut b,
+            &mut c,
+            &mut d,
+            &mut re1,
+            &mut im1,
+            &mut re2,
+            &mut im2,
+            &mut cs,
+            &mut sn,
+        )
+    };
+    Some(calls::floats(numbered(case, number), calls::STANDARDISED, &[a, b, c, d, re1, im1, re2, im2, cs, sn]))
 }
 
 fn reflect(case: &Record) -> Option<Record> {
     let f = vx_make_householder_in_place()?;
     let mut tail = case.l("tail").to_vec();
-    let answer = floats(case, calls::REFLECTION, |out, len| unsafe {
-        f(case.f("head"), tail.as_mut_ptr(), tail.len(), out, len)
-    });
-    Some(answer.list("tail", tail))
+    let [mut head, mut tau, mut inv, mut norm] = unwritten();
+    let number = unsafe { f(case.f("head"), tail.as_mut_ptr(), tail.len(), &mut head, &mut tau, &mut inv, &mut norm) };
+    Some(calls::floats(numbered(case, number), calls::REFLECTION, &[head, tau, inv, norm]).list("tail", tail))
 }
 
 fn solve(case: &Record) -> Option<Record> {
     let f = vx_lasy2()?;
     let [tl, tr, b] = ["tl", "tr", "b"].map(|key| Given::new(case, key));
-    let answer = floats(case, calls::SOLUTION, |out, len| unsafe {
-        f(tl.first(), tl.len(), tr.first(), tr.len(), b.first(), b.len(), out, len)
-    });
+    assert_eq!([tl.len(), tr.len(), b.len()], [4; 3], "lasy2 reads four numbers of each");
+    let ([mut scale], mut x) = (unwritten(), unwritten::<4>());
+    unsafe { f(tl.first(), tr.first(), b.first(), x.as_mut_ptr(), &mut scale) };
+    let answer = calls::floats(Record::new(case.call), calls::SOLUTION, &[x[0], x[1], x[2], x[3], scale]);
     Some([tl, tr, b].iter().fold(answer, |answer, given| given.checked(answer)))
 }
 
@@ -134,32 +139,33 @@ fn exchange(case: &Record) -> Option<Record> {
     let f = vx_schur_swap()?;
     let (mut t, mut u) = (case.l("t").to_vec(), case.l("u").to_vec());
     let (n, j0, n1, n2) = (case.n("n"), case.n("j0"), case.n("n1"), case.n("n2"));
-    let answer = counts(case, calls::EXCHANGED, |out, len| unsafe {
-        f(n, t.as_mut_ptr(), t.len(), u.as_mut_ptr(), u.len(), j0, n1, n2, out, len)
-    });
-    Some(answer.list("t", t).list("u", u))
+    let [mut swaps, mut declined] = [UNWRITTEN as usize; 2];
+    let number =
+        unsafe { f(n, t.as_mut_ptr(), t.len(), u.as_mut_ptr(), u.len(), j0, n1, n2, &mut swaps, &mut declined) };
+    Some(calls::counts(numbered(case, number), calls::EXCHANGED, &[swaps, declined]).list("t", t).list("u", u))
 }
 
 fn reorder(case: &Record) -> Option<Record> {
     let f = vx_reorder_schur()?;
     let (mut t, mut u) = (case.l("t").to_vec(), case.l("u").to_vec());
     let (n, from, to) = (case.n("n"), case.n("from"), case.n("to"));
-    let answer = counts(case, calls::MOVED, |out, len| unsafe {
-        f(n, t.as_mut_ptr(), t.len(), u.as_mut_ptr(), u.len(), from, to, out, len)
-    });
-    Some(answer.list("t", t).list("u", u))
+    let [mut landed, mut swaps, mut declined] = [UNWRITTEN as usize; 3];
+    let number = unsafe {
+        f(n, t.as_mut_ptr(), t.len(), u.as_mut_ptr(), u.len(), from, to, &mut landed, &mut swaps, &mut declined)
+    };
+    Some(calls::counts(numbered(case, number), calls::MOVED, &[landed, swaps, declined]).list("t", t).list("u", u))
 }
 
 fn block_values(case: &Record) -> Option<Record> {
     let (f, t) = (vx_block_values()?, Given::new(case, "t"));
     let (mut re, mut im) = (case.l("re").to_vec(), case.l("im").to_vec());
     let number = unsafe { f(case.n("n"), t.first(), t.len(), re.as_mut_ptr(), re.len(), im.as_mut_ptr(), im.len()) };
-    Some(t.checked(Record::new(case.call).num("answer", number).list("re", re).list("im", im)))
+    Some(t.checked(numbered(case, number).list("re", re).list("im", im)))
 }
 
 fn vectors(case: &Record) -> Option<Record> {
     let (f, t) = (vx_evd_from_real_schur()?, Given::new(case, "t"));
     let mut v = case.l("v").to_vec();
     let number = unsafe { f(case.n("n"), t.first(), t.len(), v.as_mut_ptr(), v.len()) };
-    Some(t.checked(Record::new(case.call).num("answer", number).list("v", v)))
+    Some(t.checked(numbered(case, number).list("v", v)))
 }

@@ -21,9 +21,10 @@ macro_rules! archive {
 
 type Read = *const f64;
 type Write = *mut f64;
-type Counts = *mut usize;
+type Count = *mut usize;
 
-// A buffer is its first place and its length.
+// A buffer is its first place and its length; a matrix of two rows and a single result are their
+// first place alone.
 archive! {
     vx_abs(f64) -> f64;
     vx_abs1(f64) -> f64;
@@ -35,14 +36,16 @@ archive! {
     vx_sqrt(f64) -> f64;
     vx_hypot(f64, f64) -> f64;
     vx_norm_l2(Read, usize) -> f64;
-    vx_rotg(f64, f64, Write, usize) -> usize;
-    vx_adjoint(f64, f64, Write, usize) -> usize;
-    vx_apply(f64, f64, f64, f64, Write, usize) -> usize;
-    vx_make_householder_in_place(f64, Write, usize, Write, usize) -> usize;
-    vx_lahqr_schur22(f64, f64, f64, f64, Write, usize) -> usize;
-    vx_lasy2(Read, usize, Read, usize, Read, usize, Write, usize) -> usize;
-    vx_schur_swap(usize, Write, usize, Write, usize, usize, usize, usize, Counts, usize) -> usize;
-    vx_reorder_schur(usize, Write, usize, Write, usize, usize, usize, Counts, usize) -> usize;
+    vx_rotg(f64, f64, Write, Write, Write) -> ();
+    vx_adjoint(f64, f64, Write, Write) -> ();
+    vx_apply(f64, f64, f64, f64, Write, Write) -> ();
+    vx_make_householder_in_place(f64, Write, usize, Write, Write, Write, Write) -> usize;
+    vx_lahqr_schur22(
+        f64, f64, f64, f64, Write, Write, Write, Write, Write, Write, Write, Write, Write, Write
+    ) -> usize;
+    vx_lasy2(Read, Read, Read, Write, Write) -> ();
+    vx_schur_swap(usize, Write, usize, Write, usize, usize, usize, usize, Count, Count) -> usize;
+    vx_reorder_schur(usize, Write, usize, Write, usize, usize, usize, Count, Count, Count) -> usize;
     vx_block_values(usize, Read, usize, Write, usize, Write, usize) -> usize;
     vx_evd_from_real_schur(usize, Read, usize, Write, usize) -> usize;
 }

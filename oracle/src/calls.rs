@@ -2,14 +2,14 @@
 
 use crate::arith;
 use crate::note::{self, Notes};
-use crate::record::{Record, Value, find};
+use crate::record::{Record, Value};
 use crate::refuse::{self, MOST_ROWS, Passed};
 use crate::sheet;
 use crate::shim::*;
 use crate::taken::jacobi::JacobiRotation;
 use crate::taken::{eigen, evd, householder, leaves, schur_swap};
 
-/// The results of each call with a buffer for them, in the buffer's order.
+/// The results of each call that gives several numbers, in its order.
 pub const ROTG: &[&str] = &["c", "s", "r"];
 pub const ADJOINT: &[&str] = &["c", "s"];
 pub const APPLY: &[&str] = &["x", "y"];
@@ -42,19 +42,19 @@ fn run(case: &Record) -> Record {
         "hypot" => value(case, arith::hypot(case.f("p"), case.f("q"))),
         "norm_l2" => value(case, arith::norm_l2(case.l("x").iter().copied())),
         "inner_prod" => value(case, arith::inner_prod(case.l("x").iter().copied().zip(case.l("y").iter().copied()))),
-        "rotg" => results(case, ROTG, |c| {
-            let (rot, r) = JacobiRotation::rotg(c.f("p"), c.f("q"));
-            vec![rot.c, rot.s, r]
-        }),
-        "adjoint" => results(case, ADJOINT, |c| {
-            let rot = JacobiRotation { c: c.f("c"), s: c.f("s") }.adjoint();
-            vec![rot.c, rot.s]
-        }),
-        "apply" => results(case, APPLY, |c| {
-            let (x, y) = arith::apply(c.f("c"), c.f("s"), c.f("x"), c.f("y"));
-            vec![x, y]
-        }),
-        "lahqr_schur22" => results(case, STANDARDISED, standardise),
+        "rotg" => {
+            let (rot, r) = JacobiRotation::rotg(case.f("p"), case.f("q"));
+            floats(Record::new(case.call), ROTG, &[rot.c, rot.s, r])
+        }
+        "adjoint" => {
+            let rot = JacobiRotation { c: case.f("c"), s: case.f("s") }.adjoint();
+            floats(Record::new(case.call), ADJOINT, &[rot.c, rot.s])
+        }
+        "apply" => {
+            let (x, y) = arith::apply(case.f("c"), case.f("s"), case.f("x"), case.f("y"));
+            floats(Record::new(case.call), APPLY, &[x, y])
+        }
+        "lahqr_schur22" => standardise(case),
         "make_householder_in_place" => reflect(case),
         "lasy2" => solve(case),
         "schur_swap" => exchange(case),
@@ -76,49 +76,37 @@ fn numbered(case: &Record, passed: Passed) -> Record {
     Record::new(case.call).num("answer", passed.err().unwrap_or(0))
 }
 
-fn out_fits(case: &Record) -> bool {
-    Some(case.out()) == find(case.call).and_then(|c| c.results)
-}
-
-/// A call turned away only for its buffer of results.
-fn results(case: &Record, keys: &[&'static str], run: impl Fn(&Record) -> Vec<f64>) -> Record {
-    let passed = refuse::results(case.out(), keys.len());
-    let answer = numbered(case, passed);
-    if passed.is_ok() { floats(answer, keys, &run(case)) } else { answer }
-}
-
-fn floats(answer: Record, keys: &[&'static str], numbers: &[f64]) -> Record {
+pub fn floats(answer: Record, keys: &[&'static str], numbers: &[f64]) -> Record {
     keys.iter().zip(numbers).fold(answer, |answer, (key, x)| answer.float(key, *x))
 }
 
-fn standardise(case: &Record) -> Vec<f64> {
+pub fn counts(answer: Record, keys: &[&'static str], numbers: &[usize]) -> Record {
+    keys.iter().zip(numbers).fold(answer, |answer, (key, x)| answer.num(key, *x))
+}
+
+fn standardise(case: &Record) -> Record {
     let ((a, b, c, d), s1, s2, (cs, sn)) = leaves::lahqr_schur22(case.f("a"), case.f("b"), case.f("c"), case.f("d"));
-    vec![a, b, c, d, s1.0, s1.1, s2.0, s2.1, cs, sn]
+    floats(numbered(case, Ok(())), STANDARDISED, &[a, b, c, d, s1.0, s1.1, s2.0, s2.1, cs, sn])
 }
 
 fn reflect(case: &Record) -> Record {
     let mut tail = case.l("tail").to_vec();
-    let passed = refuse::results(case.out(), REFLECTION.len()).and_then(|()| refuse::reflection(&tail));
-    let mut answer = numbered(case, passed);
+    let passed = refuse::reflection(&tail);
+    let mut results = [0.0; 4];
     if passed.is_ok() {
         let mut head = case.f("head");
         let rows = tail.len();
         let info = householder::make_householder_in_place(&mut head, MatMut::from_slice(&mut tail, rows, 1).col_mut(0));
-        answer = floats(answer, REFLECTION, &[head, info.tau, info.head_with_beta_inv, info.norm]);
+        results = [head, info.tau, info.head_with_beta_inv, info.norm];
     }
-    answer.list("tail", tail)
+    floats(numbered(case, passed), REFLECTION, &results).list("tail", tail)
 }
 
 fn solve(case: &Record) -> Record {
-    let (tl, tr, b) = (case.l("tl"), case.l("tr"), case.l("b"));
-    let fits = tl.len() == 4 && tr.len() == 4 && b.len() == 4 && out_fits(case);
-    if !fits {
-        return numbered(case, Err(4));
-    }
-    let window = |x| MatRef::from_slice(x, 2, 2);
+    let window = |key| MatRef::from_slice(case.l(key), 2, 2);
     let mut x = [0.0; 4];
-    let scale = leaves::lasy2(window(tl), window(tr), window(b), MatMut::from_slice(&mut x, 2, 2));
-    floats(numbered(case, Ok(())), SOLUTION, &[x[0], x[1], x[2], x[3], scale])
+    let scale = leaves::lasy2(window("tl"), window("tr"), window("b"), MatMut::from_slice(&mut x, 2, 2));
+    floats(Record::new(case.call), SOLUTION, &[x[0], x[1], x[2], x[3], scale])
 }
 
 /// A lent factor; of length 0, none.
@@ -129,14 +117,14 @@ fn factor(u: &mut [f64], n: usize) -> Option<MatMut<'_, f64>> {
 fn exchange(case: &Record) -> Record {
     let (n, j0, n1, n2) = (case.n("n"), case.n("j0"), case.n("n1"), case.n("n2"));
     let (mut t, mut u) = (case.l("t").to_vec(), case.l("u").to_vec());
-    let passed = refuse::exchange(n, &t, &u, j0, n1, n2, out_fits(case));
-    let mut answer = numbered(case, passed);
+    let passed = refuse::exchange(n, &t, &u, j0, n1, n2);
+    let mut results = [0; 2];
     if passed.is_ok() {
         schur_swap(MatMut::from_slice(&mut t, n, n), factor(&mut u, n), j0, n1, n2);
         let notes = note::seen();
-        answer = answer.num("swaps", notes.swaps).num("declined", notes.declined);
+        results = [notes.swaps, notes.declined];
     }
-    answer.list("t", t).list("u", u)
+    counts(numbered(case, passed), EXCHANGED, &results).list("t", t).list("u", u)
 }
 
 /// An accepted move, run by the Rust; the notes hold its counts and the row.
@@ -148,13 +136,13 @@ pub fn run_move(n: usize, t: &mut [f64], u: &mut [f64], from: usize, to: usize) 
 fn reorder(case: &Record) -> Record {
     let (n, from, to) = (case.n("n"), case.n("from"), case.n("to"));
     let (mut t, mut u) = (case.l("t").to_vec(), case.l("u").to_vec());
-    let passed = refuse::reorder(MOST_ROWS, n, &t, &u, from, to, out_fits(case));
-    let mut answer = numbered(case, passed);
+    let passed = refuse::reorder(MOST_ROWS, n, &t, &u, from, to);
+    let mut results = [0; 3];
     if passed.is_ok() {
         let notes = run_move(n, &mut t, &mut u, from, to);
-        answer = answer.num("landed", notes.here).num("swaps", notes.swaps).num("declined", notes.declined);
+        results = [notes.here, notes.swaps, notes.declined];
     }
-    answer.list("t", t).list("u", u)
+    counts(numbered(case, passed), MOVED, &results).list("t", t).list("u", u)
 }
 
 fn block_values(case: &Record) -> Record {

@@ -110,8 +110,7 @@ fn drawn(call: &'static str, n: usize, count: usize, wanted: impl Fn(&Record, &N
     let cases = (0..TRIES).map(|index| generate::case(call, SEED, index, Sizes { least: n, most: n }));
     let fits = |case: &Record| {
         let (answer, notes) = calls::answer(case);
-        let whole = case.find("out").is_none() && case.n("n") == n;
-        whole && answer.find("answer").is_none_or(|_| answer.n("answer") == 0) && wanted(case, &notes)
+        case.n("n") == n && answer.find("answer").is_none_or(|_| answer.n("answer") == 0) && wanted(case, &notes)
     };
     let found: Vec<Record> = cases.filter(fits).take(count).collect();
     assert_eq!(found.len(), count, "{call} of {n} rows");

@@ -22,35 +22,33 @@ pub enum Kind {
 pub struct Call {
     pub name: &'static str,
     pub given: &'static [(&'static str, Kind)],
-    /// The right length of the results buffer, where the archive's call has one.
-    pub results: Option<usize>,
 }
 
-const fn call(name: &'static str, given: &'static [(&'static str, Kind)], results: Option<usize>) -> Call {
-    Call { name, given, results }
+const fn call(name: &'static str, given: &'static [(&'static str, Kind)]) -> Call {
+    Call { name, given }
 }
 
 const X: &[(&str, Kind)] = &[("x", Kind::Float)];
 const PQ: &[(&str, Kind)] = &[("p", Kind::Float), ("q", Kind::Float)];
 
 pub const CALLS: &[Call] = &[
-    call("abs", X, None),
-    call("abs1", X, None),
-    call("abs2", X, None),
-    call("recip", X, None),
-    call("mul_pow2", &[("x", Kind::Float), ("p", Kind::Float)], None),
-    call("fmax", PQ, None),
-    call("fmin", PQ, None),
-    call("sqrt", X, None),
-    call("hypot", PQ, None),
-    call("norm_l2", &[("x", Kind::List)], None),
-    call("inner_prod", &[("x", Kind::List), ("y", Kind::List)], None),
-    call("rotg", PQ, Some(3)),
-    call("adjoint", &[("c", Kind::Float), ("s", Kind::Float)], Some(2)),
-    call("apply", &[("c", Kind::Float), ("s", Kind::Float), ("x", Kind::Float), ("y", Kind::Float)], Some(2)),
-    call("make_householder_in_place", &[("head", Kind::Float), ("tail", Kind::List)], Some(4)),
-    call("lahqr_schur22", &[("a", Kind::Float), ("b", Kind::Float), ("c", Kind::Float), ("d", Kind::Float)], Some(10)),
-    call("lasy2", &[("tl", Kind::List), ("tr", Kind::List), ("b", Kind::List)], Some(5)),
+    call("abs", X),
+    call("abs1", X),
+    call("abs2", X),
+    call("recip", X),
+    call("mul_pow2", &[("x", Kind::Float), ("p", Kind::Float)]),
+    call("fmax", PQ),
+    call("fmin", PQ),
+    call("sqrt", X),
+    call("hypot", PQ),
+    call("norm_l2", &[("x", Kind::List)]),
+    call("inner_prod", &[("x", Kind::List), ("y", Kind::List)]),
+    call("rotg", PQ),
+    call("adjoint", &[("c", Kind::Float), ("s", Kind::Float)]),
+    call("apply", &[("c", Kind::Float), ("s", Kind::Float), ("x", Kind::Float), ("y", Kind::Float)]),
+    call("make_householder_in_place", &[("head", Kind::Float), ("tail", Kind::List)]),
+    call("lahqr_schur22", &[("a", Kind::Float), ("b", Kind::Float), ("c", Kind::Float), ("d", Kind::Float)]),
+    call("lasy2", &[("tl", Kind::List), ("tr", Kind::List), ("b", Kind::List)]),
     call(
         "schur_swap",
         &[
@@ -61,17 +59,15 @@ pub const CALLS: &[Call] = &[
             ("n1", Kind::Num),
             ("n2", Kind::Num),
         ],
-        Some(2),
     ),
     call(
         "reorder_schur",
         &[("n", Kind::Num), ("t", Kind::List), ("u", Kind::List), ("from", Kind::Num), ("to", Kind::Num)],
-        Some(3),
     ),
-    call("block_values", &[("n", Kind::Num), ("t", Kind::List), ("re", Kind::List), ("im", Kind::List)], None),
-    call("evd_from_real_schur", &[("n", Kind::Num), ("t", Kind::List), ("v", Kind::List)], None),
-    call("column", &[("n", Kind::Num), ("v", Kind::List), ("col", Kind::Num)], None),
-    call("sheet", &[("text", Kind::Bytes)], None),
+    call("block_values", &[("n", Kind::Num), ("t", Kind::List), ("re", Kind::List), ("im", Kind::List)]),
+    call("evd_from_real_schur", &[("n", Kind::Num), ("t", Kind::List), ("v", Kind::List)]),
+    call("column", &[("n", Kind::Num), ("v", Kind::List), ("col", Kind::Num)]),
+    call("sheet", &[("text", Kind::Bytes)]),
 ];
 
 pub fn find(name: &str) -> Option<&'static Call> {
@@ -143,12 +139,6 @@ impl Record {
         }
     }
 
-    /// The length of the results buffer: `out=`, or the right one.
-    pub fn out(&self) -> usize {
-        let right = find(self.call).and_then(|c| c.results).unwrap_or(0);
-        if self.find("out").is_some() { self.n("out") } else { right }
-    }
-
     /// Every NaN made the one that is printed.
     pub fn settled(mut self) -> Record {
         for (_, value) in &mut self.fields {
@@ -183,9 +173,7 @@ impl Record {
         let mut record = Record::new(call.name);
         for word in words {
             let (key, text) = word.split_once('=').ok_or(format!("`{word}` is not key=value"))?;
-            let out = ("out", Kind::Num);
-            let (key, kind) =
-                *call.given.iter().chain([&out]).find(|g| g.0 == key).ok_or(format!("no field `{key}`"))?;
+            let (key, kind) = *call.given.iter().find(|g| g.0 == key).ok_or(format!("no field `{key}`"))?;
             let value = parse_value(kind, text).ok_or(format!("`{word}` cannot be read"))?;
             record = record.with(key, value);
         }

@@ -27,11 +27,6 @@ fn factor(n: usize, u: &[f64]) -> Passed {
     line(4, !u.is_empty() && u.len() != n * n)
 }
 
-/// A buffer of results, with as many places as the archive's call asks for.
-pub fn results(len: usize, right: usize) -> Passed {
-    line(4, len != right)
-}
-
 fn form(n: usize, t: &[f64]) -> Passed {
     let at = |i: usize, j: usize| is_set(t[i + n * j]);
     line(5, (0..n).any(|j| (j + 2..n).any(|i| at(i, j))))?;
@@ -39,19 +34,17 @@ fn form(n: usize, t: &[f64]) -> Passed {
 }
 
 /// What a move is turned away for; the program allows fewer rows.
-pub fn reorder(most: usize, n: usize, t: &[f64], u: &[f64], from: usize, to: usize, out_fits: bool) -> Passed {
+pub fn reorder(most: usize, n: usize, t: &[f64], u: &[f64], from: usize, to: usize) -> Passed {
     size(n, most)?;
     square(n, t)?;
-    line(4, !out_fits)?;
     factor(n, u)?;
     form(n, t)?;
     line(7, from >= n || to >= n)
 }
 
-pub fn exchange(n: usize, t: &[f64], u: &[f64], j0: usize, n1: usize, n2: usize, out_fits: bool) -> Passed {
+pub fn exchange(n: usize, t: &[f64], u: &[f64], j0: usize, n1: usize, n2: usize) -> Passed {
     size(n, MOST_ROWS)?;
     square(n, t)?;
-    line(4, !out_fits)?;
     factor(n, u)?;
     form(n, t)?;
     line(7, j0 >= n)?;

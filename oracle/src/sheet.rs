@@ -26,7 +26,7 @@ pub fn run(text: &[u8]) -> Vec<u8> {
 
 fn answer(sheet: Sheet) -> Result<String, usize> {
     let Sheet { n, from, to, mut t, mut u } = sheet;
-    refuse::reorder(MOST_ROWS, n, &t, &u, from, to, true)?;
+    refuse::reorder(MOST_ROWS, n, &t, &u, from, to)?;
     let notes = run_move(n, &mut t, &mut u, from, to);
     let counts = format!("answer=0\nlanded={}\nswaps={}\ndeclined={}\n", notes.here, notes.swaps, notes.declined);
     Ok(format!("{counts}t={}\nu={}\n", words(&t), words(&u)))

@@ -104,14 +104,10 @@ fn cases(name: &str, random: u64, extent: &Extent) -> Vec<Record> {
     cases
 }
 
-/// The stored lines have no buffer of results, lasy2's lists are of four words, and no list is
-/// longer than one row more than the usual makes it.
+/// No list of a stored line is longer than one row more than the usual makes it.
 fn storable(case: &Record) -> bool {
-    let lists = ["tl", "tr", "b"];
     let short = |value: &Value| if let Value::List(list) = value { list.len() <= LONGEST } else { true };
-    case.find("out").is_none()
-        && (case.call != "lasy2" || lists.iter().all(|key| case.l(key).len() == 4))
-        && case.fields.iter().all(|(_, value)| short(value))
+    case.fields.iter().all(|(_, value)| short(value))
 }
 
 fn pairs(name: &'static str, extent: &Extent, case: impl Fn(Record, f64, f64) -> Record) -> Vec<Record> {
@@ -158,7 +154,7 @@ fn on_buffers(case: &Record, answer: &Record, buffers: &[&str], numbers: &[&str]
     words.extend(numbers.iter().map(|key| case.n(key) as u64));
     words.extend(buffers.iter().flat_map(|key| bits(case.l(key))));
     let told = ["answer"].iter().filter(|key| answer.find(key).is_some()).chain(counts);
-    words.extend(told.map(|key| answer.find(key).map_or(0, |_| answer.n(key) as u64)));
+    words.extend(told.map(|key| answer.n(key) as u64));
     for (_, value) in &answer.fields {
         if let Value::List(list) = value {
             words.extend(bits(list));
@@ -171,7 +167,6 @@ fn on_buffers(case: &Record, answer: &Record, buffers: &[&str], numbers: &[&str]
 fn reflection(case: &Record, answer: &Record) -> Vec<u64> {
     let given =
         [vec![case.l("tail").len() as u64, case.f("head").to_bits()], padded(case.l("tail"), TAIL_PLACES)].concat();
-    let mut results: Vec<u64> = floats(answer).collect();
-    results.resize(calls::REFLECTION.len(), 0);
+    let results: Vec<u64> = floats(answer).collect();
     [given, vec![answer.n("answer") as u64], results, padded(answer.l("tail"), TAIL_PLACES)].concat()
 }

@@ -46,12 +46,18 @@ pub struct Sylvester {
 /// assert_eq!(s.eigenvalues, Eigenvalues::Complex(0.0, 0.0, 1.0));
 /// ```
 pub fn lahqr_schur22(a: f64, b: f64, c: f64, d: f64) -> Standardised {
-    let mut out = [0.0; 10];
-    // SAFETY: the buffer has the length given. It is the one asked for, so the answer is 0.
-    unsafe { abi::vx_lahqr_schur22(a, b, c, d, out.as_mut_ptr(), out.len()) };
-    let [a, b, c, d, re1, im1, re2, _, cs, sn] = out;
-    let eigenvalues = if c != 0.0 { Eigenvalues::Complex(re1, re2, im1) } else { Eigenvalues::Real(re1, re2) };
-    Standardised { a, b, c, d, cs, sn, eigenvalues }
+    let eigenvalues = Eigenvalues::Real(0.0, 0.0);
+    let mut s = Standardised { a: 0.0, b: 0.0, c: 0.0, d: 0.0, cs: 0.0, sn: 0.0, eigenvalues };
+    let [mut re1, mut im1, mut re2, mut im2] = [0.0; 4];
+    // SAFETY: each result is a variable or a field of its own. The answer is 0 always.
+    unsafe {
+        abi::vx_lahqr_schur22(
+            a, b, c, d, &mut s.a, &mut s.b, &mut s.c, &mut s.d, &mut re1, &mut im1, &mut re2, &mut im2, &mut s.cs,
+            &mut s.sn,
+        )
+    };
+    s.eigenvalues = if s.c != 0.0 { Eigenvalues::Complex(re1, re2, im1) } else { Eigenvalues::Real(re1, re2) };
+    s
 }
 
 /// Solves tl × x - x × tr = scale × b for x, all column after column.
@@ -62,11 +68,8 @@ pub fn lahqr_schur22(a: f64, b: f64, c: f64, d: f64) -> Standardised {
 /// assert_eq!((s.x, s.scale), ([1.0, 2.0, 3.0, 4.0], 1.0));
 /// ```
 pub fn lasy2(tl: &[f64; 4], tr: &[f64; 4], b: &[f64; 4]) -> Sylvester {
-    let mut out = [0.0; 5];
-    // SAFETY: each buffer has the length given. It is the one asked for, so the answer is 0.
-    unsafe {
-        abi::vx_lasy2(tl.as_ptr(), tl.len(), tr.as_ptr(), tr.len(), b.as_ptr(), b.len(), out.as_mut_ptr(), out.len())
-    };
-    let [x00, x10, x01, x11, scale] = out;
-    Sylvester { x: [x00, x10, x01, x11], scale }
+    let mut s = Sylvester { x: [0.0; 4], scale: 0.0 };
+    // SAFETY: what is written is lent apart from the rest.
+    unsafe { abi::vx_lasy2(tl, tr, b, &mut s.x, &mut s.scale) };
+    s
 }

@@ -14,6 +14,11 @@
 //! # Ok::<(), volmeixi::Refusal>(())
 //! ```
 
+/// The examples of bindings/README.md.
+#[cfg(doctest)]
+#[doc = include_str!("../../README.md")]
+mod readme {}
+
 mod abi;
 mod arithmetic;
 mod blocks;

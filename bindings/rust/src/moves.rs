@@ -45,8 +45,8 @@ pub struct Exchanged {
 /// ```
 pub fn reorder_schur(n: usize, t: &mut [f64], u: Option<&mut [f64]>, from: usize, to: usize) -> Result<Moved, Refusal> {
     let u = u.unwrap_or_default();
-    let mut out = [0; 3];
-    // SAFETY: each pointer and length are those of a slice, and these are lent apart.
+    let mut moved = Moved { landed: 0, swaps: 0, declined: 0 };
+    // SAFETY: each pointer and length are those of a slice, and all is lent apart.
     Refusal::of(unsafe {
         abi::vx_reorder_schur(
             n,
@@ -56,12 +56,12 @@ pub fn reorder_schur(n: usize, t: &mut [f64], u: Option<&mut [f64]>, from: usize
             u.len(),
             from,
             to,
-            out.as_mut_ptr(),
-            out.len(),
+            &mut moved.landed,
+            &mut moved.swaps,
+            &mut moved.declined,
         )
     })?;
-    let [landed, swaps, declined] = out;
-    Ok(Moved { landed, swaps, declined })
+    Ok(moved)
 }
 
 /// Exchanges the n1 rows of the form t from row j0 on with the n2 rows below them; the factor is as
@@ -89,11 +89,21 @@ pub fn schur_swap(
     n2: usize,
 ) -> Result<Exchanged, Refusal> {
     let u = u.unwrap_or_default();
-    let mut out = [0; 2];
+    let mut done = Exchanged { swaps: 0, declined: 0 };
     // SAFETY: as in reorder_schur.
     Refusal::of(unsafe {
-        abi::vx_schur_swap(n, t.as_mut_ptr(), t.len(), u.as_mut_ptr(), u.len(), j0, n1, n2, out.as_mut_ptr(), out.len())
+        abi::vx_schur_swap(
+            n,
+            t.as_mut_ptr(),
+            t.len(),
+            u.as_mut_ptr(),
+            u.len(),
+            j0,
+            n1,
+            n2,
+            &mut done.swaps,
+            &mut done.declined,
+        )
     })?;
-    let [swaps, declined] = out;
-    Ok(Exchanged { swaps, declined })
+    Ok(done)
 }

@@ -3,14 +3,22 @@
 use std::fmt;
 
 /// Why a call was turned away: the first line of the list that applies. No buffer has changed then.
+/// Later versions may have more lines, so a `match` needs an arm for the rest.
 ///
 /// ```
+/// use volmeixi::Refusal;
+///
 /// let refusal = volmeixi::reorder_schur(2, &mut [1.0, 0.0, 0.0, 2.0], None, 0, 2).unwrap_err();
-/// assert_eq!(refusal, volmeixi::Refusal::Position);
+/// assert_eq!(refusal, Refusal::Position);
 /// assert_eq!(refusal.number(), 7);
 /// assert_eq!(refusal.to_string(), "a position or column number is not below n");
+/// match refusal {
+///     Refusal::Rows => panic!("too many rows"),
+///     other => println!("{}: {}", other.number(), other),
+/// }
 /// ```
 #[derive(Clone, Copy, Debug, PartialEq, Eq, Hash)]
+#[non_exhaustive]
 pub enum Refusal {
     /// 2: n is 0 or above 64.
     Rows,
@@ -32,23 +40,31 @@ pub enum Refusal {
     Across,
     /// 11: a reflection's tail has not 1, 2 or 3 numbers.
     TailLength,
+    /// Any other number: the archive is newer than this crate.
+    Unknown(usize),
 }
 
 use Refusal::*;
 
 /// In the order of their numbers, from 2 on.
-const ALL: [Refusal; 10] =
+const KNOWN: [Refusal; 10] =
     [Rows, FormLength, BufferLength, DeepEntry, Touching, Position, BlockSize, PastEnd, Across, TailLength];
 
 impl Refusal {
-    /// The line's number, 2 to 11, as the calls for C give it.
+    /// The line's number, as the calls for C give it.
     pub fn number(self) -> usize {
-        self as usize + 2
+        match self {
+            Unknown(number) => number,
+            known => KNOWN.iter().position(|line| *line == known).map_or(0, |k| k + 2),
+        }
     }
 
     /// `Ok` for 0.
     pub(crate) fn of(number: usize) -> Result<(), Refusal> {
-        if number == 0 { Ok(()) } else { Err(ALL[number - 2]) }
+        match number {
+            0 => Ok(()),
+            _ => Err(number.checked_sub(2).and_then(|k| KNOWN.get(k)).copied().unwrap_or(Unknown(number))),
+        }
     }
 }
 
@@ -58,7 +74,8 @@ impl fmt::Display for Refusal {
             Rows => "the number of rows n is 0 or above 64",
             FormLength => "the form's length is not n times n",
             BufferLength => {
-                "the length of a further buffer is wrong: a factor and vectors need n times n numbers, block values n"
+                "the length of a further buffer is wrong: a factor needs n times n numbers or none, \
+                 vectors n times n, each part of block values n"
             }
             DeepEntry => "the form has an entry more than one row below the diagonal that is not zero",
             Touching => "the form has two neighbouring entries just below the diagonal that are both not zero",
@@ -67,8 +84,25 @@ impl fmt::Display for Refusal {
             PastEnd => "the rows of the exchange run past the last row of the form",
             Across => "a 2-block lies across the upper edge, the middle or the lower edge of the exchange",
             TailLength => "the tail of a reflection has not 1, 2 or 3 numbers",
+            Unknown(number) => return write!(f, "turned away with number {}, which is not known here", number),
         })
     }
 }
 
 impl std::error::Error for Refusal {}
+
+#[cfg(test)]
+mod tests {
+    use super::*;
+
+    #[test]
+    fn every_number_has_a_refusal() {
+        assert_eq!(Refusal::of(0), Ok(()));
+        for number in (1..20).chain(vec![usize::MAX]) {
+            let refusal = Refusal::of(number).unwrap_err();
+            assert_eq!(refusal.number(), number);
+            assert_eq!(matches!(refusal, Unknown(_)), !(2..=11).contains(&number));
+        }
+        assert_eq!(Unknown(12).to_string(), "turned away with number 12, which is not known here");
+    }
+}

@@ -35,10 +35,9 @@ pub struct Reflection {
 /// assert_eq!((g.rot.c, g.rot.s, g.r), (0.6, -0.8, 5.0));
 /// ```
 pub fn rotg(p: f64, q: f64) -> RotationWith {
-    let mut out = [0.0; 3];
-    // SAFETY: the buffer has the length given. It is the one asked for, so the answer is 0.
-    unsafe { abi::vx_rotg(p, q, out.as_mut_ptr(), out.len()) };
-    let [c, s, r] = out;
+    let [mut c, mut s, mut r] = [0.0; 3];
+    // SAFETY: each result is a variable of its own.
+    unsafe { abi::vx_rotg(p, q, &mut c, &mut s, &mut r) };
     RotationWith { rot: JacobiRotation { c, s }, r }
 }
 
@@ -49,10 +48,9 @@ pub fn rotg(p: f64, q: f64) -> RotationWith {
 /// assert_eq!((back.c, back.s), (0.6, -0.8));
 /// ```
 pub fn adjoint(rot: JacobiRotation) -> JacobiRotation {
-    let mut out = [0.0; 2];
+    let [mut c, mut s] = [0.0; 2];
     // SAFETY: as in rotg.
-    unsafe { abi::vx_adjoint(rot.c, rot.s, out.as_mut_ptr(), out.len()) };
-    let [c, s] = out;
+    unsafe { abi::vx_adjoint(rot.c, rot.s, &mut c, &mut s) };
     JacobiRotation { c, s }
 }
 
@@ -63,10 +61,10 @@ pub fn adjoint(rot: JacobiRotation) -> JacobiRotation {
 /// assert_eq!(volmeixi::apply(turn, 5.0, 7.0), (7.0, -5.0));
 /// ```
 pub fn apply(rot: JacobiRotation, x: f64, y: f64) -> (f64, f64) {
-    let mut out = [0.0; 2];
+    let [mut new_x, mut new_y] = [0.0; 2];
     // SAFETY: as in rotg.
-    unsafe { abi::vx_apply(rot.c, rot.s, x, y, out.as_mut_ptr(), out.len()) };
-    out.into()
+    unsafe { abi::vx_apply(rot.c, rot.s, x, y, &mut new_x, &mut new_y) };
+    (new_x, new_y)
 }
 
 /// The reflection that takes the head and the tail to a new head and zeros. The tail, 1 to 3
@@ -84,11 +82,18 @@ pub fn apply(rot: JacobiRotation, x: f64, y: f64) -> (f64, f64) {
 /// # Ok::<(), volmeixi::Refusal>(())
 /// ```
 pub fn make_householder_in_place(head: f64, tail: &mut [f64]) -> Result<Reflection, Refusal> {
-    let mut out = [0.0; 4];
-    // SAFETY: each pointer and length are those of a slice, and these are lent apart.
+    let mut r = Reflection { head: 0.0, tau: 0.0, head_with_beta_inv: 0.0, norm: 0.0 };
+    // SAFETY: the pointer and the length are those of a slice, and each result is a field of its own.
     Refusal::of(unsafe {
-        abi::vx_make_householder_in_place(head, tail.as_mut_ptr(), tail.len(), out.as_mut_ptr(), out.len())
+        abi::vx_make_householder_in_place(
+            head,
+            tail.as_mut_ptr(),
+            tail.len(),
+            &mut r.head,
+            &mut r.tau,
+            &mut r.head_with_beta_inv,
+            &mut r.norm,
+        )
     })?;
-    let [head, tau, head_with_beta_inv, norm] = out;
-    Ok(Reflection { head, tau, head_with_beta_inv, norm })
+    Ok(r)
 }

@@ -83,6 +83,13 @@ fn standardising() {
 }
 
 #[test]
+fn solving() {
+    let (tl, tr) = ([3.0, 0.0, 0.0, 3.0], [1.0, 0.0, 0.0, 1.0]);
+    assert_eq!(lasy2(&tl, &tr, &[2.0, 4.0, 6.0, 8.0]), Sylvester { x: [1.0, 2.0, 3.0, 4.0], scale: 1.0 });
+    assert_eq!(lasy2(&tr, &tl, &tr), Sylvester { x: [-0.5, -0.0, -0.0, -0.5], scale: 1.0 });
+}
+
+#[test]
 fn moves_on_a_diagonal() {
     let mut t = diagonal(&[1.0, 2.0, 3.0]);
     assert_eq!(reorder_schur(3, &mut t, None, 0, 2), Ok(Moved { landed: 2, swaps: 2, declined: 0 }));

@@ -1,22 +1,8 @@
-// Exchange and move. The factor may be of length 0: none.
+// Exchange and move. The factor may be of length 0: none. Turned away, the counts are 0.
 ghost use mathlib.Core.Path.{_≡_};
-ghost use Rattle.volmeixi.specs.Moves.{wrongBuffer, lentExchange, lentMove};
-
-// The line that turns a call with a buffer of the wrong length away.
-fn wrong_buffer(n: usize, t: &[f64]) -> usize
-    ensures { λ r. ⌜ r ≡ wrongBuffer n (now (t .entry)) ⌝ }
-{
-    if n == 0 {
-        return 2;
-    }
-    if 64 < n {
-        return 2;
-    }
-    if t.len() != n * n {
-        return 3;
-    }
-    4
-}
+ghost use lib.Ieee.{binary64};
+ghost use Rattle.model.specs.Exchange as Exchange;
+ghost use Rattle.model.specs.Move as Move;
 
 // The n1 rows from row j0 on exchanged with the n2 below them; swaps and declined.
 #[no_mangle]
@@ -27,20 +13,15 @@ pub extern "C" fn vx_schur_swap(
     j0: usize,
     n1: usize,
     n2: usize,
-    out: &mut [usize],
+    swaps: &mut usize,
+    declined: &mut usize,
 ) -> usize
-    ensures { λ r. ⌜ (record { answer = r; form = now (t .exit); factor = now (u .exit); out = now (out .exit) }) ≡ lentExchange n (now (t .entry)) (now (u .entry)) j0 n1 n2 (now (out .entry)) ⌝ }
+    ensures { λ r. ⌜ (record { answer = r; swaps = now (swaps .exit); declined = now (declined .exit); form = now (t .exit); factor = now (u .exit) }) ≡ Exchange.exchangeCall binary64 n n (now (t .entry)) (now (u .entry)) j0 n1 n2 ⌝ }
 {
-    if out.len() != 2 {
-        return wrong_buffer(n, &*t);
-    }
-    let r = schur::swap::schur_swap(n, &mut *t, &mut *u, j0, n1, n2);
-    if r.answer != 0 {
-        return r.answer;
-    }
-    out[0] = r.swaps;
-    out[1] = r.declined;
-    0
+    let r = schur::swap::schur_swap(n, t, u, j0, n1, n2);
+    *swaps = r.swaps;
+    *declined = r.declined;
+    r.answer
 }
 
 // The block in row `from` moved to row `to`; landed, swaps and declined.
@@ -51,19 +32,15 @@ pub extern "C" fn vx_reorder_schur(
     u: &mut [f64],
     from: usize,
     to: usize,
-    out: &mut [usize],
+    landed: &mut usize,
+    swaps: &mut usize,
+    declined: &mut usize,
 ) -> usize
-    ensures { λ r. ⌜ (record { answer = r; form = now (t .exit); factor = now (u .exit); out = now (out .exit) }) ≡ lentMove n (now (t .entry)) (now (u .entry)) from to (now (out .entry)) ⌝ }
+    ensures { λ r. ⌜ (record { answer = r; landed = now (landed .exit); swaps = now (swaps .exit); declined = now (declined .exit); form = now (t .exit); factor = now (u .exit) }) ≡ Move.moveCall binary64 n n (now (t .entry)) (now (u .entry)) from to ⌝ }
 {
-    if out.len() != 3 {
-        return wrong_buffer(n, &*t);
-    }
-    let r = schur::reorder::reorder_schur(n, &mut *t, &mut *u, from, to);
-    if r.answer != 0 {
-        return r.answer;
-    }
-    out[0] = r.landed;
-    out[1] = r.swaps;
-    out[2] = r.declined;
-    0
+    let r = schur::reorder::reorder_schur(n, t, u, from, to);
+    *landed = r.landed;
+    *swaps = r.swaps;
+    *declined = r.declined;
+    r.answer
 }

@@ -41,8 +41,7 @@ pub fn case(call: &'static str, seed: u64, index: u64, sizes: Sizes) -> Record {
         "sheet" => return sheet(rng, sizes),
         _ => return small::case(call, rng, index),
     };
-    let case = if rng.one_in(12) { damage::damage(rng, case) } else { case };
-    small::wrong_out(rng, case)
+    if rng.one_in(12) { damage::damage(rng, case) } else { case }
 }
 
 /// Small numbers of rows are drawn more often.

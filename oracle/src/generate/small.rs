@@ -3,7 +3,7 @@
 
 use super::floats::*;
 use super::rng::Rng;
-use crate::record::{Record, find};
+use crate::record::Record;
 
 /// Two numbers; over `CLASSES`² cases every class meets every class.
 fn pair(rng: &mut Rng, index: u64) -> (f64, f64) {
@@ -34,7 +34,7 @@ fn list(rng: &mut Rng, len: usize) -> Vec<f64> {
 /// A case of one of these calls.
 pub fn case(call: &'static str, rng: &mut Rng, index: u64) -> Record {
     let case = Record::new(call);
-    let case = match call {
+    match call {
         "abs" | "abs1" | "abs2" | "recip" => case.float("x", class(rng, index as usize % CLASSES)),
         "sqrt" => case.float("x", under_root(rng, index)),
         "mul_pow2" => {
@@ -70,18 +70,6 @@ pub fn case(call: &'static str, rng: &mut Rng, index: u64) -> Record {
             case.float("a", a).float("b", b).float("c", c).float("d", d)
         }
         _ => solve(rng, case),
-    };
-    wrong_out(rng, case)
-}
-
-/// Now and then a buffer of results of the wrong length.
-pub fn wrong_out(rng: &mut Rng, case: Record) -> Record {
-    match find(case.call).and_then(|c| c.results) {
-        Some(right) if rng.one_in(64) => {
-            let len = rng.below(right + 3);
-            if len == right { case } else { case.num("out", len) }
-        }
-        _ => case,
     }
 }
 
@@ -197,11 +185,5 @@ fn solve(rng: &mut Rng, case: Record) -> Record {
         5 => (four(rng, any), four(rng, draw)),
         _ => (four(rng, draw), four(rng, draw)),
     };
-    let mut lists = [tl, tr, b];
-    if rng.one_in(64) {
-        let which = rng.below(3);
-        lists[which].resize(rng.below(7), 1.0);
-    }
-    let [tl, tr, b] = lists;
     case.list("tl", tl).list("tr", tr).list("b", b)
 }
