@@ -31,12 +31,10 @@ def generator():
 
 def blocks(t):
     """First row, size, value of each block in order."""
-    n = len(t)
-    re, im = numpy.empty(n), numpy.empty(n)
-    volmeixi.block_values(n, t, re, im)
+    re, im = volmeixi.block_values(t)
     found, j = [], 0
-    while j < n:
-        size = 2 if j + 1 < n and t[j + 1, j] != 0 else 1
+    while j < len(t):
+        size = 2 if j + 1 < len(t) and t[j + 1, j] != 0 else 1
         found.append((j, size, complex(re[j], im[j])))
         j += size
     return found
@@ -47,7 +45,7 @@ def slow_to_front(t, z, count):
     goal = swaps = 0
     for _ in range(count):
         row, size, _ = min((block for block in blocks(t) if block[0] >= goal), key=lambda block: -block[2].real)
-        moved = volmeixi.reorder_schur(len(t), t, z, row, goal)
+        moved = volmeixi.reorder_schur(t, z, row, goal)
         assert moved.declined == 0 and moved.landed == goal
         goal, swaps = goal + size, swaps + moved.swaps
     return goal, swaps

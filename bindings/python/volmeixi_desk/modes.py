@@ -4,7 +4,6 @@ A mode goes as exp(value * time). A 1-block is one mode; a 2-block is a pair of 
 """
 
 import math
-from array import array
 from typing import NamedTuple
 
 from .texts import Complaint
@@ -58,18 +57,6 @@ def calls():
     return volmeixi
 
 
-def _values(n, form):
-    re, im = array("d", bytes(8 * n)), array("d", bytes(8 * n))
-    calls().block_values(n, form, re, im)
-    return list(re), list(im)
-
-
-def _vectors(n, form):
-    v = array("d", bytes(8 * n * n))
-    calls().evd_from_real_schur(n, form, v)
-    return [list(v[n * j : n * j + n]) for j in range(n)]
-
-
 def _standard(n, form, j):
     upper, lower = form[j + n * (j + 1)], form[j + 1 + n * j]
     return form[j + n * j] == form[j + 1 + n * (j + 1)] and (upper < 0 < lower or lower < 0 < upper)
@@ -82,8 +69,10 @@ def first_row(n, form, row):
 
 def modes_of(n, form):
     """The modes of an accepted form, in the order in which they stand."""
-    re, im = _values(n, form)
-    vectors = _vectors(n, form)
+    vx = calls()
+    re, im = vx.block_values(form)
+    v = vx.evd_from_real_schur(form)
+    vectors = [list(v[n * j : n * j + n]) for j in range(n)]
     modes, j = [], 0
     while j < n:
         if j + 1 < n and not form[j + 1 + n * j] == 0:
