@@ -12,6 +12,7 @@ from .texts import (
     Request,
     Sheet,
     accepted,
+    called,
     check_form,
     count,
     csv_of,
@@ -43,21 +44,21 @@ def _factor(given, n):
         return [float(i == j) for j in range(n) for i in range(n)]
     rows = read_matrix(given)
     if len(rows) != n:
-        raise Complaint(f"{given} has {count(len(rows), 'row')}, and the form has {n}")
-    return square(rows, given)
+        raise Complaint(f"{called(given)} has {count(len(rows), 'row')}, and the form has {n}")
+    return square(rows, called(given))
 
 
 def request_of(given):
     """The request that the arguments of `sheet` make, checked."""
-    rows = read_matrix(given.matrix)
+    rows, name = read_matrix(given.matrix), called(given.matrix)
     n = len(rows)
     if n > MOST_ROWS:
-        raise Complaint(f"{given.matrix} has {n} rows, and the program takes {MOST_ROWS} at most")
-    form = square(rows, given.matrix)
-    check_form(n, form, given.matrix)
+        raise Complaint(f"{name} has {n} rows, and the program takes {MOST_ROWS} at most")
+    form = square(rows, name)
+    check_form(n, form, name)
     for key, position in (("--from", given.start), ("--to", given.goal)):
         if not 0 <= position < n:
-            raise Complaint(f"{key} {position} is no row of {given.matrix}: rows are 0 to {n - 1}")
+            raise Complaint(f"{key} {position} is no row of {name}: rows are 0 to {n - 1}")
     return Request(n, given.start, given.goal, form, _factor(given.factor, n))
 
 
@@ -78,7 +79,7 @@ def sheet(given):
 
 def parts_of(names):
     """At most one request and one sheet, the request first."""
-    parts = sorted(((parse(read_text(name), name), name) for name in names), key=lambda part: isinstance(part[0], Sheet))
+    parts = sorted(((parse(read_text(name), called(name)), called(name)) for name in names), key=lambda part: isinstance(part[0], Sheet))
     if len(parts) > 2 or len({type(part) for part, _ in parts}) < len(parts):
         raise Complaint("give one request, one sheet, or one of each")
     if len(parts) == 2:

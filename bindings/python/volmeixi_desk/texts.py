@@ -58,6 +58,11 @@ class Sheet(NamedTuple):
 # ---- Files
 
 
+def called(name):
+    """What a file is called in a complaint."""
+    return "standard input" if name == "-" else name
+
+
 def read_text(name):
     """The text of a file, or of standard input for `-`."""
     try:
@@ -69,7 +74,7 @@ def read_text(name):
     try:
         return data.decode("utf-8-sig")
     except UnicodeDecodeError:
-        raise Complaint(f"{name} is not a text") from None
+        raise Complaint(f"{called(name)} is not a text") from None
 
 
 def write_text(name, text):
@@ -124,9 +129,9 @@ def read_matrix(name):
     for k, line in enumerate(read_text(name).splitlines(), 1):
         line = line.split("#", 1)[0].strip()
         if line:
-            rows.append([number(word, f"{name}, line {k}") for word in _cells(line)])
+            rows.append([number(word, f"{called(name)}, line {k}") for word in _cells(line)])
     if not rows:
-        raise Complaint(f"{name} has no numbers")
+        raise Complaint(f"{called(name)} has no numbers")
     return rows
 
 
