@@ -1,6 +1,8 @@
 """The test of `python3 -m volmeixi`: each command on its own and through the proved program, what it
 says to bad input, and that decimals come back exactly."""
 
+import contextlib
+import io
 import math
 import os
 import pathlib
@@ -9,12 +11,13 @@ import sys
 import tempfile
 import unittest
 import xml.etree.ElementTree
+from unittest import mock
 
 HERE = pathlib.Path(__file__).resolve().parent
 EXAMPLES = HERE.parents[1] / "examples"
 sys.path.insert(0, str(HERE))
 
-from volmeixi_desk import modes, plot, texts  # noqa: E402
+from volmeixi_desk import command, modes, plot, texts  # noqa: E402
 
 SVG = "{http://www.w3.org/2000/svg}"
 EDGES = [0.1, -1 / 3, math.pi, 5e-324, 2.2250738585072014e-308, 1.7976931348623157e308, -0.0, 2.0**53 + 2, 1e23]
@@ -34,21 +37,57 @@ class Desk(unittest.TestCase):
     def matrix(self, rows, name="m.csv"):
         return self.file(name, "".join(",".join(map(repr, row)) + "\n" for row in rows))
 
-    def run_desk(self, *words, given="", **changed):
+    def run_whole(self, *words, given="", **changed):
+        """Status, output and errors of the command in a process of its own."""
         env = {**os.environ, "PYTHONPATH": str(HERE), "PYTHONDONTWRITEBYTECODE": "1", **changed}
-        return subprocess.run([sys.executable, "-m", "volmeixi", *words], input=given, env=env, cwd=self.at, capture_output=True, text=True, check=False)
+        done = subprocess.run([sys.executable, "-m", "volmeixi", *words], input=given, env=env, cwd=self.at, capture_output=True, text=True, check=False)
+        return done.returncode, done.stdout, done.stderr
 
-    def good(self, *words, **more):
-        done = self.run_desk(*words, **more)
-        self.assertEqual((done.returncode, done.stderr), (0, ""))
-        return done.stdout
+    def run_here(self, *words, given=""):
+        """The same in this process, which is quicker."""
+        old, stdin = os.getcwd(), io.TextIOWrapper(io.BytesIO(given.encode()))
+        os.chdir(self.at)
+        try:
+            with contextlib.redirect_stdout(io.StringIO()) as out, contextlib.redirect_stderr(io.StringIO()) as err, mock.patch("sys.stdin", stdin):
+                status = command.main(list(words))
+        finally:
+            os.chdir(old)
+        return status, out.getvalue(), err.getvalue()
 
-    def bad(self, said, *words, **more):
+    def good(self, *words, whole=False, **more):
+        status, out, err = (self.run_whole if whole else self.run_here)(*words, **more)
+        self.assertEqual((status, err), (0, ""))
+        return out
+
+    def bad(self, said, *words, whole=False, **more):
         """Status 2, nothing printed, and one sentence on standard error in which this is said."""
-        done = self.run_desk(*words, **more)
-        self.assertEqual((done.returncode, done.stdout), (2, ""), done.stderr)
-        self.assertRegex(done.stderr, r"\Avolmeixi: [^\n]+\n\Z")
-        self.assertIn(said, done.stderr)
+        status, out, err = (self.run_whole if whole else self.run_here)(*words, **more)
+        self.assertEqual((status, out), (2, ""), err)
+        self.assertRegex(err, r"\Avolmeixi: [^\n]+\n\Z")
+        self.assertIn(said, err)
+
+
+class Whole(Desk):
+    """As `python3 -m volmeixi`, in a process of its own."""
+
+    def test_each_command(self):
+        name = self.matrix([[1, 0], [0, 2]])
+        out = self.good("sheet", name, "--from", "0", "--to", "1", "--factor", "unit", whole=True)
+        self.assertEqual(out, (EXAMPLES / "two-rows.sheet").read_text())
+        shown = self.good("show", "-", given=out, whole=True)
+        self.assertEqual(shown, self.good("show", str(EXAMPLES / "two-rows.sheet")))
+        self.good("plot", str(EXAMPLES / "two-rows.txt"), "-o", "p.svg", whole=True)
+        self.assertTrue((self.at / "p.svg").read_text().endswith("</svg>\n"))
+        self.bad("'x' is not a number", "sheet", "-", "--from", "0", "--to", "0", given="x\n", whole=True)
+        self.bad("no command", whole=True)
+        self.assertIn("plot", self.good("--help", whole=True))
+
+    def test_closed_pipe(self):
+        """A reader that has enough is no error that shows."""
+        line = f"{sys.executable} -m volmeixi show {EXAMPLES / 'slow-mode.sheet'} --digits 17 | head -n 1"
+        env = {**os.environ, "PYTHONPATH": str(HERE), "PYTHONDONTWRITEBYTECODE": "1"}
+        done = subprocess.run(["bash", "-c", line], env=env, capture_output=True, text=True, check=True)
+        self.assertEqual((done.stdout.count("\n"), done.stderr), (1, ""))
 
 
 class SheetCommand(Desk):
@@ -133,7 +172,7 @@ class SheetCommand(Desk):
         self.bad("cannot be written", "sheet", name, "--from", "0", "--to", "1", "-o", "none/s")
 
     def test_program_is_missing(self):
-        self.bad("run 'rt check sheet'", "sheet", self.matrix([[1]]), "--from", "0", "--to", "0", VOLMEIXI_SHEET=str(self.at / "none"))
+        self.bad("run 'rt check sheet'", "sheet", self.matrix([[1]]), "--from", "0", "--to", "0", whole=True, VOLMEIXI_SHEET=str(self.at / "none"))
 
 
 class ShowCommand(Desk):
@@ -236,8 +275,8 @@ class ShowCommand(Desk):
         self.bad("one of each", "show", both[0], both[0])
 
     def test_library_is_missing(self):
-        self.bad("bindings/python/build", "show", str(EXAMPLES / "two-rows.sheet"), VOLMEIXI_LIBRARY=str(self.at / "none"))
-        self.bad("bindings/python/build", "show", str(EXAMPLES / "two-rows.sheet"), VOLMEIXI_LIBRARY=self.file("x.so", "no library"))
+        self.bad("bindings/python/build", "show", str(EXAMPLES / "two-rows.sheet"), whole=True, VOLMEIXI_LIBRARY=str(self.at / "none"))
+        self.bad("bindings/python/build", "show", str(EXAMPLES / "two-rows.sheet"), whole=True, VOLMEIXI_LIBRARY=self.file("x.so", "no library"))
 
 
 class PlotCommand(Desk):
