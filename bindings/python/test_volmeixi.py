@@ -154,7 +154,7 @@ class Worked(unittest.TestCase):
         self.assertEqual(vx.block_values([1, 0, 1, 2], im=im), (floats([1, 2]), floats([0, 0])))
         self.assertEqual(im, floats([0, 0]))
 
-        self.assertIn("re has 1 number:", self.refused(4, lambda re, im: vx.block_values(TURN, re, im), floats([9]), im))
+        self.assertIn("re has 1 number:", self.refused(4, lambda re: vx.block_values(TURN, re, im), floats([9])))
         self.assertIn("im has 3 num", self.refused(4, lambda im: vx.block_values(TURN, im=im), floats([9] * 3)))
         self.refused(3, lambda re, im: vx.block_values(TURN[1:], re, im), re, im)
         self.refused(2, lambda: vx.block_values([]))

@@ -107,7 +107,7 @@ fn accepted(case: &Record) -> bool {
 
 /// The first cases of n rows that are not turned away and are wanted.
 fn drawn(call: &'static str, n: usize, count: usize, wanted: impl Fn(&Record, &Notes) -> bool) -> Vec<Record> {
-    let cases = (0..TRIES).map(|index| generate::case(call, SEED, index, Sizes { least: n, most: n }));
+    let cases = (0..TRIES).filter_map(|index| generate::stored(call, SEED, index, Sizes { least: n, most: n }));
     let fits = |case: &Record| {
         let (answer, notes) = calls::answer(case);
         case.n("n") == n && answer.find("answer").is_none_or(|_| answer.n("answer") == 0) && wanted(case, &notes)

@@ -99,7 +99,7 @@ fn cases(name: &str, random: u64, extent: &Extent) -> Vec<Record> {
         }
         _ => picked(call.name),
     };
-    let drawn = (0..).map(|index| generate::case(call.name, SEED, index, USUAL));
+    let drawn = (0..).filter_map(|index| generate::stored(call.name, SEED, index, USUAL));
     cases.extend(drawn.filter(storable).take(random.min(extent.random) as usize));
     cases
 }
