@@ -44,7 +44,9 @@ def slow_to_front(t, z, count):
     """The slowest of the blocks that are left goes behind those that were moved."""
     goal = swaps = 0
     for _ in range(count):
-        row, size, _ = min((block for block in blocks(t) if block[0] >= goal), key=lambda block: -block[2].real)
+        row, size, _ = min(
+            (block for block in blocks(t) if block[0] >= goal), key=lambda block: -block[2].real
+        )
         moved = volmeixi.reorder_schur(t, z, row, goal)
         assert moved.declined == 0 and moved.landed == goal
         goal, swaps = goal + size, swaps + moved.swaps

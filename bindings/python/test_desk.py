@@ -20,7 +20,17 @@ sys.path.insert(0, str(HERE))
 from volmeixi_desk import command, modes, plot, texts  # noqa: E402
 
 SVG = "{http://www.w3.org/2000/svg}"
-EDGES = [0.1, -1 / 3, math.pi, 5e-324, 2.2250738585072014e-308, 1.7976931348623157e308, -0.0, 2.0**53 + 2, 1e23]
+EDGES = [
+    0.1,
+    -1 / 3,
+    math.pi,
+    5e-324,
+    2.2250738585072014e-308,
+    1.7976931348623157e308,
+    -0.0,
+    2.0**53 + 2,
+    1e23,
+]
 
 
 class Desk(unittest.TestCase):
@@ -40,7 +50,15 @@ class Desk(unittest.TestCase):
     def run_whole(self, *words, given="", **changed):
         """Status, output and errors of the command in a process of its own."""
         env = {**os.environ, "PYTHONPATH": str(HERE), "PYTHONDONTWRITEBYTECODE": "1", **changed}
-        done = subprocess.run([sys.executable, "-m", "volmeixi", *words], input=given, env=env, cwd=self.at, capture_output=True, text=True, check=False)
+        done = subprocess.run(
+            [sys.executable, "-m", "volmeixi", *words],
+            input=given,
+            env=env,
+            cwd=self.at,
+            capture_output=True,
+            text=True,
+            check=False,
+        )
         return done.returncode, done.stdout, done.stderr
 
     def run_here(self, *words, given=""):
@@ -48,7 +66,9 @@ class Desk(unittest.TestCase):
         old, stdin = os.getcwd(), io.TextIOWrapper(io.BytesIO(given.encode()))
         os.chdir(self.at)
         try:
-            with contextlib.redirect_stdout(io.StringIO()) as out, contextlib.redirect_stderr(io.StringIO()) as err, mock.patch("sys.stdin", stdin):
+            with contextlib.redirect_stdout(io.StringIO()) as out, contextlib.redirect_stderr(
+                io.StringIO()
+            ) as err, mock.patch("sys.stdin", stdin):
                 status = command.main(list(words))
         finally:
             os.chdir(old)
@@ -110,8 +130,17 @@ class SheetCommand(Desk):
         self.assertTrue(out.endswith("\nu=\n"))
 
     def test_layouts_are_one(self):
-        kinds = ["1,2\n0,3\n", "1 2\n0 3\n", "# a comment\n\n 1.0 ,\t2 # two\n0, 0.3e1\n", "0x1p0 0x1.0p+1\n0x0p0 0x1.8p1", "\ufeff1,2\r\n0,3\r\n"]
-        outs = {self.good("sheet", self.file(f"{k}", kind), "--from", "0", "--to", "1") for k, kind in enumerate(kinds)}
+        kinds = [
+            "1,2\n0,3\n",
+            "1 2\n0 3\n",
+            "# a comment\n\n 1.0 ,\t2 # two\n0, 0.3e1\n",
+            "0x1p0 0x1.0p+1\n0x0p0 0x1.8p1",
+            "\ufeff1,2\r\n0,3\r\n",
+        ]
+        outs = {
+            self.good("sheet", self.file(f"{k}", kind), "--from", "0", "--to", "1")
+            for k, kind in enumerate(kinds)
+        }
         self.assertEqual(len(outs), 1)
         self.assertEqual(outs, {self.good("sheet", "-", "--from", "0", "--to", "1", given=kinds[0])})
 
@@ -121,7 +150,10 @@ class SheetCommand(Desk):
             name = self.file("m.csv", "\n".join(",".join(map(shown, row)) for row in rows))
             self.good("sheet", name, "--from", "0", "--to", "0", "--request", "r")
             request = texts.parse_request((self.at / "r").read_text(), "r")
-            self.assertEqual([texts.word_of(request.form[len(EDGES) * j]) for j in range(len(EDGES))], list(map(texts.word_of, EDGES)))
+            self.assertEqual(
+                [texts.word_of(request.form[len(EDGES) * j]) for j in range(len(EDGES))],
+                list(map(texts.word_of, EDGES)),
+            )
 
     def test_nan_and_infinity_are_worked_with(self):
         out = self.good("sheet", self.matrix([[1.0, math.nan], [0.0, -math.inf]]), "--from", "0", "--to", "1")
@@ -129,7 +161,9 @@ class SheetCommand(Desk):
 
     def test_32_rows_pass_and_33_do_not(self):
         for n in (32, 33):
-            name = self.matrix([[float(i + 1) if i == j else 0.0 for j in range(n)] for i in range(n)], f"{n}")
+            name = self.matrix(
+                [[float(i + 1) if i == j else 0.0 for j in range(n)] for i in range(n)], f"{n}"
+            )
             words = ["sheet", name, "--from", str(n - 1), "--to", "0", "--factor", "unit"]
             if n == 32:
                 self.assertIn("landed=0\nswaps=31\n", self.good(*words))
@@ -167,19 +201,52 @@ class SheetCommand(Desk):
         self.bad("--to", "sheet", name, "--from", "0")
         self.bad("no command")
         self.bad("invalid choice", "sheets")
-        self.bad("has 1 row, and the form has 2", "sheet", name, "--from", "0", "--to", "1", "--factor", self.matrix([[1]], "u"))
-        self.bad("is not square", "sheet", name, "--from", "0", "--to", "1", "--factor", self.matrix([[1], [1]], "u"))
+        self.bad(
+            "has 1 row, and the form has 2",
+            "sheet",
+            name,
+            "--from",
+            "0",
+            "--to",
+            "1",
+            "--factor",
+            self.matrix([[1]], "u"),
+        )
+        self.bad(
+            "is not square",
+            "sheet",
+            name,
+            "--from",
+            "0",
+            "--to",
+            "1",
+            "--factor",
+            self.matrix([[1], [1]], "u"),
+        )
         self.bad("cannot be written", "sheet", name, "--from", "0", "--to", "1", "-o", "none/s")
 
     def test_program_is_missing(self):
-        self.bad("run 'rt check sheet'", "sheet", self.matrix([[1]]), "--from", "0", "--to", "0", whole=True, VOLMEIXI_SHEET=str(self.at / "none"))
+        self.bad(
+            "run 'rt check sheet'",
+            "sheet",
+            self.matrix([[1]]),
+            "--from",
+            "0",
+            "--to",
+            "0",
+            whole=True,
+            VOLMEIXI_SHEET=str(self.at / "none"),
+        )
 
 
 class ShowCommand(Desk):
     def test_sheet(self):
         lines = self.good("show", str(EXAMPLES / "slow-mode.sheet")).split("\n")
         self.assertEqual(lines[0], "Sheet of 6 rows: answer 0, landed in row 0, 4 swaps, 0 declined.")
-        self.assertEqual(lines[5].split(), ["0", "[", "-0.0625]", "-0.0666289", "-0.388918", "0.157328", "0.593692", "-0.421029"])
+        self.assertEqual(
+            lines[5].split(),
+            ["0", "[", "-0.0625]", "-0.0666289", "-0.388918", "0.157328", "0.593692", "-0.421029"],
+        )
         self.assertEqual(lines[7].split(), ["2", ".", ".", "[", "-0.5", "-1.53012]", "0.569554", "0.853053"])
         self.assertEqual(lines[8].split(), ["3", ".", ".", "[", "1.96062", "-0.5]", "0.528605", "-0.644453"])
         self.assertEqual(lines[15].split(), ["1*", "0", "-0.0625", "0", "0.0625", "11.0904", "-"])
@@ -205,7 +272,12 @@ class ShowCommand(Desk):
 
     def test_block_that_is_not_standardised(self):
         said = "is not standardised"
-        for block, told in [([[1, 2], [-3, 4]], True), ([[1, 2], [3, 1]], True), ([[1, 2], [-3, 1]], False), ([[1, 0], [0, 4]], False)]:
+        for block, told in [
+            ([[1, 2], [-3, 4]], True),
+            ([[1, 2], [3, 1]], True),
+            ([[1, 2], [-3, 1]], False),
+            ([[1, 0], [0, 4]], False),
+        ]:
             self.good("sheet", self.matrix(block), "--from", "0", "--to", "0", "-o", "s")
             self.assertEqual(said in self.good("show", "s"), told, block)
 
@@ -226,14 +298,35 @@ class ShowCommand(Desk):
     def test_csv_comes_back_exactly(self):
         for kind in ("form", "factor"):
             out = self.good("show", str(EXAMPLES / "slow-mode.sheet"), "--csv", kind)
-            self.good("sheet", self.file("m", self.good("show", str(EXAMPLES / "slow-mode.sheet"), "--csv", "form")), "--from", "0", "--to", "0", "--factor", self.file("u", out), "-o", "s")
+            self.good(
+                "sheet",
+                self.file("m", self.good("show", str(EXAMPLES / "slow-mode.sheet"), "--csv", "form")),
+                "--from",
+                "0",
+                "--to",
+                "0",
+                "--factor",
+                self.file("u", out),
+                "-o",
+                "s",
+            )
             again = texts.parse_sheet((self.at / "s").read_text(), "s")
             first = texts.parse_sheet((EXAMPLES / "slow-mode.sheet").read_text(), "")
-            self.assertEqual(list(map(texts.word_of, again.factor)), list(map(texts.word_of, getattr(first, kind))))
-        self.bad("has no factor", "show", self.file("s", "answer=0\nlanded=0\nswaps=0\ndeclined=0\nt=0000000000000000\nu=\n"), "--csv", "factor")
+            self.assertEqual(
+                list(map(texts.word_of, again.factor)), list(map(texts.word_of, getattr(first, kind)))
+            )
+        self.bad(
+            "has no factor",
+            "show",
+            self.file("s", "answer=0\nlanded=0\nswaps=0\ndeclined=0\nt=0000000000000000\nu=\n"),
+            "--csv",
+            "factor",
+        )
 
     def test_digits_and_factor(self):
-        out = self.good("show", str(EXAMPLES / "slow-mode.sheet"), "--digits", "17", "--factor", "--through-factor")
+        out = self.good(
+            "show", str(EXAMPLES / "slow-mode.sheet"), "--digits", "17", "--factor", "--through-factor"
+        )
         self.assertIn("-0.062499999999999958", out)
         self.assertIn("\nFactor:\n", out)
         self.assertIn("the factor times that of the form", out)
@@ -241,12 +334,23 @@ class ShowCommand(Desk):
             self.bad("--digits", "show", str(EXAMPLES / "slow-mode.sheet"), "--digits", word)
 
     def test_wide_forms_go_on_below(self):
-        self.good("sheet", self.matrix([[1 / 3] * 32 if i == 0 else [0.0] * 32 for i in range(32)]), "--from", "0", "--to", "0", "-o", "s")
+        self.good(
+            "sheet",
+            self.matrix([[1 / 3] * 32 if i == 0 else [0.0] * 32 for i in range(32)]),
+            "--from",
+            "0",
+            "--to",
+            "0",
+            "-o",
+            "s",
+        )
         self.assertTrue(all(len(line) <= 110 for line in self.good("show", "s").split("\n")))
 
     def test_turned_away(self):
         out = self.good("show", str(EXAMPLES / "refused.sheet"))
-        self.assertEqual(out, "Turned away with answer 5: an entry more than one row below the diagonal is not zero.\n")
+        self.assertEqual(
+            out, "Turned away with answer 5: an entry more than one row below the diagonal is not zero.\n"
+        )
         self.bad("the entry in row 3, column 1 is 0.5", "show", str(EXAMPLES / "refused.txt"))
 
     def test_bad_texts(self):
@@ -260,11 +364,17 @@ class ShowCommand(Desk):
             (f"n=1\nfrom=0\nto=0\nt={form.upper()}\nu=\n", "line 4"),
             (f"n=1\nfrom=0\nto=0\nt={form}0\nu=\n", "line 4"),
             (f"n=2\nfrom=0\nto=0\nt={form}\nu=\n", "the form has 1 number, and 2 times 2 are 4"),
-            (f"n=1\nfrom=0\nto=0\nt={form}\nu={form} {form}\n", "the factor has 2 numbers, and 1 times 1 are 1"),
+            (
+                f"n=1\nfrom=0\nto=0\nt={form}\nu={form} {form}\n",
+                "the factor has 2 numbers, and 1 times 1 are 1",
+            ),
             (f"n=1\nfrom=1\nto=0\nt={form}\nu=\n", "from=1 is no row, rows are 0 to 0"),
             ("n=0\nfrom=0\nto=0\nt=\nu=\n", "asks for 0 rows"),
             ("n=65\nfrom=0\nto=0\nt=\nu=\n", "asks for 65 rows"),
-            (f"answer=0\nlanded=0\nswaps=0\ndeclined=0\nt={form} {form}\nu=\n", "the form has 2 numbers, and 1 times 1 are 1"),
+            (
+                f"answer=0\nlanded=0\nswaps=0\ndeclined=0\nt={form} {form}\nu=\n",
+                "the form has 2 numbers, and 1 times 1 are 1",
+            ),
             ("answer=0\n", "a sheet has 6 lines"),
             (f"answer=5\nlanded=0\nswaps=0\ndeclined=0\nt={form}\nu=\n", "answer 5 has no further line"),
         ]:
@@ -275,8 +385,20 @@ class ShowCommand(Desk):
         self.bad("one of each", "show", both[0], both[0])
 
     def test_library_is_missing(self):
-        self.bad("bindings/python/build", "show", str(EXAMPLES / "two-rows.sheet"), whole=True, VOLMEIXI_LIBRARY=str(self.at / "none"))
-        self.bad("bindings/python/build", "show", str(EXAMPLES / "two-rows.sheet"), whole=True, VOLMEIXI_LIBRARY=self.file("x.so", "no library"))
+        self.bad(
+            "bindings/python/build",
+            "show",
+            str(EXAMPLES / "two-rows.sheet"),
+            whole=True,
+            VOLMEIXI_LIBRARY=str(self.at / "none"),
+        )
+        self.bad(
+            "bindings/python/build",
+            "show",
+            str(EXAMPLES / "two-rows.sheet"),
+            whole=True,
+            VOLMEIXI_LIBRARY=self.file("x.so", "no library"),
+        )
 
 
 class PlotCommand(Desk):
@@ -298,12 +420,22 @@ class PlotCommand(Desk):
     def test_places_and_marks(self):
         """In both planes the moved mode is the orange point next to zero; it is 5, then 1."""
         root = self.picture(str(EXAMPLES / "slow-mode.txt"))
-        orange = [float(dot.get("cx")) for dot in root.findall(f"{SVG}circle") if dot.get("fill") == plot.MOVED]
+        orange = [
+            float(dot.get("cx")) for dot in root.findall(f"{SVG}circle") if dot.get("fill") == plot.MOVED
+        ]
         self.assertEqual(len(orange), 2)
-        bold = [text.text for text in root.findall(f"{SVG}text") if text.get("fill") == plot.MOVED and text.get("stroke")]
+        bold = [
+            text.text
+            for text in root.findall(f"{SVG}text")
+            if text.get("fill") == plot.MOVED and text.get("stroke")
+        ]
         self.assertEqual(bold, ["5", "1"])
         for left, x in zip((plot.LEFT, plot.LEFT + plot.PANEL + plot.GAP), orange):
-            others = [float(dot.get("cx")) for dot in root.findall(f"{SVG}circle") if left <= float(dot.get("cx")) <= left + plot.PANEL]
+            others = [
+                float(dot.get("cx"))
+                for dot in root.findall(f"{SVG}circle")
+                if left <= float(dot.get("cx")) <= left + plot.PANEL
+            ]
             self.assertEqual(x, max(others))
 
     def test_a_sheet_alone_and_equal_values(self):
@@ -317,6 +449,30 @@ class PlotCommand(Desk):
         root = self.picture("s")
         self.assertEqual(len(root.findall(f"{SVG}circle")), 1)
         self.assertIn("row 0: nan (not drawn)", [text.text for text in root.findall(f"{SVG}text")])
+
+    def test_all_sizes_of_numbers(self):
+        """From the least to the greatest float, and nothing but zeros."""
+        for numbers, drawn in [
+            ([5e-324, -5e-324], 2),
+            ([1.7e308, -1e-300], 1),
+            ([1e300, -1e300], 2),
+            ([0.0, 0.0], 1),
+        ]:
+            self.good(
+                "sheet",
+                self.matrix([[numbers[0], 0.0], [0.0, numbers[1]]]),
+                "--from",
+                "0",
+                "--to",
+                "0",
+                "-o",
+                "s",
+            )
+            root = self.picture("s")
+            circles = root.findall(f"{SVG}circle")
+            self.assertEqual(len(circles), drawn, numbers)
+            for dot in circles:
+                self.assertTrue(plot.LEFT < float(dot.get("cx")) < plot.LEFT + plot.PANEL)
 
     def test_labels_keep_clear(self):
         """32 modes: no label lies on another, or on a point."""

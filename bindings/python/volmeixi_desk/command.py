@@ -79,13 +79,18 @@ def sheet(given):
 
 def parts_of(names):
     """At most one request and one sheet, the request first."""
-    parts = sorted(((parse(read_text(name), called(name)), called(name)) for name in names), key=lambda part: isinstance(part[0], Sheet))
+    parts = sorted(
+        ((parse(read_text(name), called(name)), called(name)) for name in names),
+        key=lambda part: isinstance(part[0], Sheet),
+    )
     if len(parts) > 2 or len({type(part) for part, _ in parts}) < len(parts):
         raise Complaint("give one request, one sheet, or one of each")
     if len(parts) == 2:
         (before, first), (after, second) = parts
         if not after.answer and before.n != after.n:
-            raise Complaint(f"{first} has {count(before.n, 'row')} and {second} {after.n}: they do not belong together")
+            raise Complaint(
+                f"{first} has {count(before.n, 'row')} and {second} {after.n}: they do not belong together"
+            )
     return parts
 
 
@@ -98,7 +103,9 @@ def shown(given):
             raise Complaint(f"{name} has no factor")
         sys.stdout.write(csv_of(part.n, numbers))
     else:
-        sys.stdout.write(show.text_of([part for part, _ in parts], given.digits, given.factor, given.through_factor))
+        sys.stdout.write(
+            show.text_of([part for part, _ in parts], given.digits, given.factor, given.through_factor)
+        )
 
 
 def plotted(given):
@@ -110,7 +117,9 @@ def plotted(given):
     for part, name in parts:
         if isinstance(part, Sheet):
             accepted(part, name)
-            after = f"after: landed in row {part.landed}, {count(part.swaps, 'swap')}, {part.declined} declined"
+            after = (
+                f"after: landed in row {part.landed}, {count(part.swaps, 'swap')}, {part.declined} declined"
+            )
             planes.append((after, modes_of(part.n, part.form), part.landed if part.declined == 0 else None))
         else:
             before = f"before: row {part.start} is to go to row {part.goal}"
@@ -130,29 +139,68 @@ def _digits(word):
 
 
 def parser():
-    top = Parser(prog="python3 -m volmeixi", description="Sheets for people: moves of blocks of real Schur forms, in decimals.")
+    top = Parser(
+        prog="python3 -m volmeixi",
+        description="Sheets for people: moves of blocks of real Schur forms, in decimals.",
+    )
     top.set_defaults(run=None)
     of = top.add_subparsers(title="commands", metavar="COMMAND")
 
     one = of.add_parser("sheet", help="move a block of a matrix in decimals, and print the sheet")
-    one.add_argument("matrix", metavar="MATRIX", help="a quasi-triangular matrix, CSV or whitespace; decimals or hex floats; # begins a comment; - is standard input")
-    one.add_argument("--from", dest="start", type=int, required=True, metavar="I", help="the row of the block to move, counted from 0")
+    one.add_argument(
+        "matrix",
+        metavar="MATRIX",
+        help="a quasi-triangular matrix, CSV or whitespace; decimals or hex floats; # begins a comment; "
+        "- is standard input",
+    )
+    one.add_argument(
+        "--from",
+        dest="start",
+        type=int,
+        required=True,
+        metavar="I",
+        help="the row of the block to move, counted from 0",
+    )
     one.add_argument("--to", dest="goal", type=int, required=True, metavar="J", help="the row to move it to")
-    one.add_argument("--factor", metavar="FILE", help="a matrix that goes along, or the word unit; none if not given")
+    one.add_argument(
+        "--factor", metavar="FILE", help="a matrix that goes along, or the word unit; none if not given"
+    )
     one.add_argument("--request", metavar="FILE", help="keep the request's text too")
-    one.add_argument("-o", dest="output", metavar="FILE", help="where the sheet goes, if not to standard output")
+    one.add_argument(
+        "-o", dest="output", metavar="FILE", help="where the sheet goes, if not to standard output"
+    )
     one.set_defaults(run=sheet)
 
     two = of.add_parser("show", help="print a sheet, a request, or both in decimals")
-    two.add_argument("file", nargs="+", metavar="SHEET", help="a sheet, a request, or both; - is standard input")
-    two.add_argument("--digits", type=_digits, default=6, help="significant digits, 1 to 17; 17 give each number back exactly")
+    two.add_argument(
+        "file", nargs="+", metavar="SHEET", help="a sheet, a request, or both; - is standard input"
+    )
+    two.add_argument(
+        "--digits",
+        type=_digits,
+        default=6,
+        help="significant digits, 1 to 17; 17 give each number back exactly",
+    )
     two.add_argument("--factor", action="store_true", help="print the factor too")
-    two.add_argument("--through-factor", action="store_true", help="print the factor times each vector, worked out in plain floats")
-    two.add_argument("--csv", choices=("form", "factor"), help="print only this matrix (the sheet's, where both are given), exactly, as CSV")
+    two.add_argument(
+        "--through-factor",
+        action="store_true",
+        help="print the factor times each vector, worked out in plain floats",
+    )
+    two.add_argument(
+        "--csv",
+        choices=("form", "factor"),
+        help="print only this matrix (the sheet's, where both are given), exactly, as CSV",
+    )
     two.set_defaults(run=shown)
 
     three = of.add_parser("plot", help="draw the modes in the complex plane, before and after")
-    three.add_argument("file", nargs="+", metavar="SHEET", help="a request (which is run) or a request and its sheet; a sheet alone has no before")
+    three.add_argument(
+        "file",
+        nargs="+",
+        metavar="SHEET",
+        help="a request (which is run) or a request and its sheet; a sheet alone has no before",
+    )
     three.add_argument("-o", dest="output", required=True, metavar="FILE.svg", help="where the picture goes")
     three.add_argument("--title", help="the picture's title")
     three.set_defaults(run=plotted)

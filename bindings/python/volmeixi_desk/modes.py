@@ -53,7 +53,9 @@ def calls():
     try:
         import volmeixi
     except (ImportError, OSError) as error:
-        raise Complaint(f"the shared library cannot be loaded ({error}): run 'rt staticlib volmeixi', then bindings/python/build") from None
+        raise Complaint(
+            f"the shared library cannot be loaded ({error}): run 'rt staticlib volmeixi', then bindings/python/build"
+        ) from None
     return volmeixi
 
 

@@ -6,6 +6,7 @@ from xml.sax.saxutils import escape
 PANEL = 380  # width and height of a panel's frame
 LEFT, TOP, GAP, RIGHT = 74, 100, 92, 28
 INK, SOFT, GRID, MARK, MOVED, BAND = "#1f2933", "#52606d", "#d9dee3", "#2563a8", "#c2410c", "#f3f6f9"
+HALO = ' font-weight="bold" stroke="#ffffff" stroke-width="3" paint-order="stroke"'
 FONT = "font-family=\"'DejaVu Sans', Verdana, sans-serif\""
 
 
@@ -24,7 +25,7 @@ def ticks(low, high, most=6):
 def span(numbers):
     """Low and high ends around numbers and zero, with room at both sides."""
     low, high = min(0.0, *numbers), max(0.0, *numbers)
-    room = 0.12 * (high - low) if high > low else 1.0
+    room = 0.12 * (high - low) if high - low > 1e-300 else 1.0
     return low - room, high + room
 
 
@@ -67,12 +68,17 @@ class Panel:
         return (box[0] + box[2]) / 2, (box[1] + box[3]) / 2, away > 10
 
 
+def drawn(mode):
+    """Whether a mode is drawn: a plane has no place for infinities and NaN, nor for what is almost one."""
+    return abs(mode.re) <= 1e300 and abs(mode.im) <= 1e300
+
+
 def points_of(modes):
     """Each point of the plane with the numbers of the modes that stand there: (re, im) to numbers."""
     points = {}
     for k, mode in enumerate(modes, 1):
         for im in (mode.im, -mode.im) if mode.size == 2 else (0.0,):
-            if math.isfinite(mode.re) and math.isfinite(im):
+            if drawn(mode):
                 numbers = points.setdefault((mode.re, im + 0.0), [])
                 if k not in numbers:
                     numbers.append(k)
@@ -80,27 +86,35 @@ def points_of(modes):
 
 
 def text(x, y, words, size=13, colour=INK, anchor="middle", more=""):
-    return f'<text x="{x:.1f}" y="{y:.1f}" font-size="{size}" fill="{colour}" text-anchor="{anchor}"{more}>{escape(words)}</text>'
+    place = f'x="{x:.1f}" y="{y:.1f}" font-size="{size}" fill="{colour}" text-anchor="{anchor}"{more}'
+    return f"<text {place}>{escape(words)}</text>"
+
+
+def line(x1, y1, x2, y2, colour, wide=1.0):
+    ends = f'x1="{x1:.1f}" y1="{y1:.1f}" x2="{x2:.1f}" y2="{y2:.1f}"'
+    return f'<line {ends} stroke="{colour}" stroke-width="{wide}"/>'
+
+
+def box(x, y, wide, high, fill, more=""):
+    return f'<rect x="{x:.1f}" y="{y:.1f}" width="{wide:.1f}" height="{high:.1f}" fill="{fill}"{more}/>'
 
 
 def axes(panel, title):
-    left, out = panel.left, []
-    zero = min(max(panel.x(0.0), left), left + PANEL)
-    out.append(f'<rect x="{left}" y="{TOP}" width="{PANEL}" height="{PANEL}" fill="#ffffff"/>')
-    out.append(f'<rect x="{zero:.1f}" y="{TOP}" width="{left + PANEL - zero:.1f}" height="{PANEL}" fill="{BAND}"/>')
+    left, right, bottom = panel.left, panel.left + PANEL, TOP + PANEL
+    zero, level = panel.x(0.0), panel.y(0.0)
+    out = [box(left, TOP, PANEL, PANEL, "#ffffff"), box(zero, TOP, right - zero, PANEL, BAND)]
     for re in ticks(*panel.across):
-        x = panel.x(re)
-        out.append(f'<line x1="{x:.1f}" y1="{TOP}" x2="{x:.1f}" y2="{TOP + PANEL}" stroke="{GRID}"/>')
-        out.append(text(x, TOP + PANEL + 18, label(re), 12, SOFT))
+        out.append(line(panel.x(re), TOP, panel.x(re), bottom, GRID))
+        out.append(text(panel.x(re), bottom + 18, label(re), 12, SOFT))
     for im in ticks(*panel.up):
-        y = panel.y(im)
-        out.append(f'<line x1="{left}" y1="{y:.1f}" x2="{left + PANEL}" y2="{y:.1f}" stroke="{GRID}"/>')
-        out.append(text(left - 8, y + 4, label(im), 12, SOFT, "end"))
-    out.append(f'<line x1="{zero:.1f}" y1="{TOP}" x2="{zero:.1f}" y2="{TOP + PANEL}" stroke="{SOFT}" stroke-width="1.2"/>')
-    out.append(f'<line x1="{left}" y1="{panel.y(0.0):.1f}" x2="{left + PANEL}" y2="{panel.y(0.0):.1f}" stroke="{SOFT}" stroke-width="1.2"/>')
-    out.append(f'<rect x="{left}" y="{TOP}" width="{PANEL}" height="{PANEL}" fill="none" stroke="{SOFT}"/>')
-    out.append(text(left + PANEL / 2, TOP - 12, title, 14, INK, more=' font-weight="bold"'))
-    out.append(text(left + PANEL / 2, TOP + PANEL + 38, "real part (below 0 decays, shaded grows)", 12, SOFT))
+        out.append(line(left, panel.y(im), right, panel.y(im), GRID))
+        out.append(text(left - 8, panel.y(im) + 4, label(im), 12, SOFT, "end"))
+    out.append(line(zero, TOP, zero, bottom, SOFT, 1.2))
+    out.append(line(left, level, right, level, SOFT, 1.2))
+    out.append(box(left, TOP, PANEL, PANEL, "none", f' stroke="{SOFT}"'))
+    middle = left + PANEL / 2
+    out.append(text(middle, TOP - 12, title, 14, INK, more=' font-weight="bold"'))
+    out.append(text(middle, bottom + 38, "real part (below 0 decays, shaded grows)", 12, SOFT))
     turn = f' transform="rotate(-90 {left - 50} {TOP + PANEL / 2})"'
     out.append(text(left - 50, TOP + PANEL / 2, "imaginary part (turns)", 12, SOFT, more=turn))
     return out
@@ -120,8 +134,8 @@ def dots(panel, modes, moved):
         words = ", ".join(map(str, numbers))
         lx, ly, far = panel.spot(x, y, words)
         if far:
-            out.append(f'<line x1="{x:.1f}" y1="{y:.1f}" x2="{lx:.1f}" y2="{ly:.1f}" stroke="{colour}" stroke-width="0.8"/>')
-        out.append(text(lx, ly + 4.5, words, 13, colour, more=' font-weight="bold" stroke="#ffffff" stroke-width="3" paint-order="stroke"'))
+            out.append(line(x, y, lx, ly, colour, 0.8))
+        out.append(text(lx, ly + 4.5, words, 13, colour, more=HALO))
     return out
 
 
@@ -131,8 +145,7 @@ def value(mode):
 
 def entry(mode):
     rows = ("row " if mode.size == 1 else "rows ") + mode.rows.replace(", ", "\u2013")
-    drawn = math.isfinite(mode.re) and math.isfinite(mode.im)
-    return f"{rows}: {value(mode)}" + ("" if drawn else " (not drawn)")
+    return f"{rows}: {value(mode)}" + ("" if drawn(mode) else " (not drawn)")
 
 
 def legend(left, modes, moved):
@@ -166,6 +179,13 @@ def svg_of(planes, title):
         f"<title>{escape(title)}</title>",
         f'<rect width="{wide}" height="{high}" fill="#ffffff"/>',
         text(LEFT, 34, title, 17, INK, "start", ' font-weight="bold"'),
-        text(LEFT, 56, f"Modes numbered in their order; {note} mode goes as exp(value \u00d7 time).", 12, SOFT, "start"),
+        text(
+            LEFT,
+            56,
+            f"Modes numbered in their order; {note} mode goes as exp(value \u00d7 time).",
+            12,
+            SOFT,
+            "start",
+        ),
     ]
     return "\n".join(head + body + ["</svg>"]) + "\n"

@@ -20,7 +20,9 @@ def _table(heads, rows, aligned):
     widths = [max(map(len, column)) for column in zip(heads, *rows)]
     lines = []
     for row in [heads, *rows]:
-        cells = [cell.ljust(w) if side == "<" else cell.rjust(w) for cell, w, side in zip(row, widths, aligned)]
+        cells = [
+            cell.ljust(w) if side == "<" else cell.rjust(w) for cell, w, side in zip(row, widths, aligned)
+        ]
         lines.append("  ".join(cells).rstrip())
     return lines
 
@@ -34,7 +36,10 @@ def _panels(cells, heads, rows):
     for first in range(0, len(heads), fits):
         part = slice(first, first + fits)
         lines = [" " * side + " " + " ".join(head.rjust(wide) for head in heads[part])]
-        lines += [row.rjust(side) + " " + " ".join(cell.rjust(wide) for cell in line[part]) for row, line in zip(rows, cells)]
+        lines += [
+            row.rjust(side) + " " + " ".join(cell.rjust(wide) for cell in line[part])
+            for row, line in zip(rows, cells)
+        ]
         panels.append([line.rstrip() for line in lines])
     return [line for k, panel in enumerate(panels) for line in ([""] if k else []) + panel]
 
@@ -63,7 +68,13 @@ def matrix_lines(n, numbers, digits):
 def _pace(mode, digits):
     if mode.half_life is not None:
         return decimal(mode.half_life, digits)
-    return f"doubles in {decimal(mode.doubling, digits)}" if mode.doubling is not None else "stays" if mode.re == 0 else "-"
+    return (
+        f"doubles in {decimal(mode.doubling, digits)}"
+        if mode.doubling is not None
+        else "stays"
+        if mode.re == 0
+        else "-"
+    )
 
 
 def mode_lines(modes, moved, digits):
@@ -72,7 +83,17 @@ def mode_lines(modes, moved, digits):
         imaginary = "0" if mode.size == 1 else "+-" + decimal(mode.im, digits)
         period = "-" if mode.period is None else decimal(mode.period, digits)
         mark = "*" if mode.row == moved else ""
-        rows.append([str(k) + mark, mode.rows, decimal(mode.re, digits), imaginary, decimal(mode.decay, digits), _pace(mode, digits), period])
+        rows.append(
+            [
+                str(k) + mark,
+                mode.rows,
+                decimal(mode.re, digits),
+                imaginary,
+                decimal(mode.decay, digits),
+                _pace(mode, digits),
+                period,
+            ]
+        )
     lines = _table(["mode", "rows", "real", "imaginary", "decay", "half-life", "period"], rows, "<<>>>>>")
     return lines + [
         f"The 2-block in rows {mode.rows} is not standardised (its diagonal numbers differ, or its other two have "
@@ -86,7 +107,9 @@ def vector_lines(n, modes, factor, digits):
     """A column for each mode, two for a pair: real and imaginary part. Below its block, dots."""
     heads, columns = [], []
     for k, mode in enumerate(modes, 1):
-        parts = [(f"{k}", mode.real)] if mode.size == 1 else [(f"{k} re", mode.real), (f"{k} im", mode.imaginary)]
+        parts = (
+            [(f"{k}", mode.real)] if mode.size == 1 else [(f"{k} re", mode.real), (f"{k} im", mode.imaginary)]
+        )
         for head, vector in parts:
             heads.append(head)
             if factor is None:
@@ -101,12 +124,20 @@ def part_lines(part, digits, with_factor, through_factor):
     """A request or a sheet."""
     if isinstance(part, Sheet):
         if part.answer:
-            return [f"Turned away with answer {part.answer}: {ANSWERS.get(part.answer, 'no answer of a move')}."]
+            return [
+                f"Turned away with answer {part.answer}: {ANSWERS.get(part.answer, 'no answer of a move')}."
+            ]
         moved = part.landed if part.declined == 0 else None
-        lines = [f"Sheet of {count(part.n, 'row')}: answer 0, landed in row {part.landed}, {count(part.swaps, 'swap')}, {part.declined} declined."]
+        lines = [
+            f"Sheet of {count(part.n, 'row')}: answer 0, landed in row {part.landed}, "
+            f"{count(part.swaps, 'swap')}, {part.declined} declined."
+        ]
     else:
         moved = first_row(part.n, part.form, part.start)
-        lines = [f"Request of {count(part.n, 'row')}: move the block in row {part.start} to row {part.goal}, {'with a' if part.factor else 'without'} factor."]
+        lines = [
+            f"Request of {count(part.n, 'row')}: move the block in row {part.start} to row {part.goal}, "
+            f"{'with a' if part.factor else 'without'} factor."
+        ]
     modes = modes_of(part.n, part.form)
     lines += ["", "Form (blocks in brackets):", ""] + form_lines(part.n, part.form, modes, digits)
     if with_factor and part.factor:
@@ -115,7 +146,11 @@ def part_lines(part, digits, with_factor, through_factor):
     lines += ["", f"Modes, in their order{star}:", ""] + mode_lines(modes, moved, digits)
     factor = part.factor if through_factor and part.factor else None
     head = "Vectors, of the form" if factor is None else "Vectors, the factor times that of the form"
-    pair = " (a pair's: real and imaginary part, for +imaginary)" if any(mode.size == 2 for mode in modes) else ""
+    pair = (
+        " (a pair's: real and imaginary part, for +imaginary)"
+        if any(mode.size == 2 for mode in modes)
+        else ""
+    )
     return lines + ["", f"{head}{pair}:", ""] + vector_lines(part.n, modes, factor, digits)
 
 

@@ -140,7 +140,9 @@ def square(rows, name):
     n = len(rows)
     for i, row in enumerate(rows):
         if len(row) != n:
-            raise Complaint(f"{name} is not square: it has {count(n, 'row')}, and row {i} has {count(len(row), 'number')}")
+            raise Complaint(
+                f"{name} is not square: it has {count(n, 'row')}, and row {i} has {count(len(row), 'number')}"
+            )
     return [rows[i][j] for j in range(n) for i in range(n)]
 
 
@@ -183,8 +185,21 @@ def request_text(request):
 
 _WORDS = r"((?:[0-9a-f]{16}(?: [0-9a-f]{16})*)?)"
 _NUMBER = r"(0|[1-9][0-9]*)"
-_REQUEST = [("n", r"(0|[1-9][0-9]{0,3})"), ("from", r"(0|[1-9][0-9]{0,3})"), ("to", r"(0|[1-9][0-9]{0,3})"), ("t", _WORDS), ("u", _WORDS)]
-_ACCEPTED = [("answer", _NUMBER), ("landed", _NUMBER), ("swaps", _NUMBER), ("declined", _NUMBER), ("t", _WORDS), ("u", _WORDS)]
+_REQUEST = [
+    ("n", r"(0|[1-9][0-9]{0,3})"),
+    ("from", r"(0|[1-9][0-9]{0,3})"),
+    ("to", r"(0|[1-9][0-9]{0,3})"),
+    ("t", _WORDS),
+    ("u", _WORDS),
+]
+_ACCEPTED = [
+    ("answer", _NUMBER),
+    ("landed", _NUMBER),
+    ("swaps", _NUMBER),
+    ("declined", _NUMBER),
+    ("t", _WORDS),
+    ("u", _WORDS),
+]
 
 
 def _lines(text, layout, name, kind):
@@ -207,14 +222,18 @@ def _floats(words):
 
 def _fits(n, numbers, name, what, none=False):
     if len(numbers) != n * n and not (none and not numbers):
-        raise Complaint(f"{name}: the {what} has {count(len(numbers), 'number')}, and {n} times {n} are {n * n}")
+        raise Complaint(
+            f"{name}: the {what} has {count(len(numbers), 'number')}, and {n} times {n} are {n * n}"
+        )
 
 
 def parse_request(text, name):
     n, start, goal, form, factor = _lines(text, _REQUEST, name, "request")
     n, form, factor = int(n), _floats(form), _floats(factor)
     if not 1 <= n <= 64:
-        raise Complaint(f"{name} asks for {count(n, 'row')}: a form has 1 to 64, in the program 1 to {MOST_ROWS}")
+        raise Complaint(
+            f"{name} asks for {count(n, 'row')}: a form has 1 to 64, in the program 1 to {MOST_ROWS}"
+        )
     _fits(n, form, name, "form")
     _fits(n, factor, name, "factor", none=True)
     check_form(n, form, name)
@@ -234,7 +253,9 @@ def parse_sheet(text, name):
     form, factor = _floats(form), _floats(factor)
     n = math.isqrt(len(form))
     if not 1 <= n <= 64:
-        raise Complaint(f"{name}: the form has {count(len(form), 'number')}, which is not n times n for n of 1 to 64")
+        raise Complaint(
+            f"{name}: the form has {count(len(form), 'number')}, which is not n times n for n of 1 to 64"
+        )
     _fits(n, form, name, "form")
     _fits(n, factor, name, "factor", none=True)
     check_form(n, form, name)
@@ -247,7 +268,9 @@ def parse(text, name):
         return parse_sheet(text, name)
     if text.startswith("n="):
         return parse_request(text, name)
-    raise Complaint(f"{name} is neither a sheet, which begins with answer=, nor a request, which begins with n=")
+    raise Complaint(
+        f"{name} is neither a sheet, which begins with answer=, nor a request, which begins with n="
+    )
 
 
 # ---- The program
@@ -264,7 +287,9 @@ def run(text):
     try:
         done = subprocess.run([str(place)], input=text.encode(), stdout=subprocess.PIPE, check=False)
     except FileNotFoundError:
-        raise Complaint(f"{place} is not built: run 'rt check sheet' in {ROOT}, or set VOLMEIXI_SHEET") from None
+        raise Complaint(
+            f"{place} is not built: run 'rt check sheet' in {ROOT}, or set VOLMEIXI_SHEET"
+        ) from None
     except OSError as error:
         raise Complaint(f"{place} cannot be run: {error.strerror}") from None
     if done.returncode != 0:
@@ -275,5 +300,7 @@ def run(text):
 def accepted(sheet, name):
     """A sheet that was turned away is a complaint where its form is needed."""
     if sheet.answer:
-        raise Complaint(f"{name} was turned away with answer {sheet.answer}: {ANSWERS.get(sheet.answer, 'no answer of a move')}")
+        raise Complaint(
+            f"{name} was turned away with answer {sheet.answer}: {ANSWERS.get(sheet.answer, 'no answer of a move')}"
+        )
     return sheet
