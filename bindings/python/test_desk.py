@@ -252,6 +252,13 @@ class ShowCommand(Desk):
         self.assertEqual(lines[15].split(), ["1*", "0", "-0.0625", "0", "0.0625", "11.0904", "-"])
         self.assertEqual(lines[17].split(), ["3", "2,", "3", "-0.5", "+-1.73205", "0.5", "1.38629", "3.6276"])
 
+    def test_vectors_of_a_sheet(self):
+        lines = self.good("show", str(EXAMPLES / "slow-mode.sheet")).split("Vectors")[1].split("\n")
+        self.assertEqual(lines[2].split(), ["1", "2", "3", "re", "3", "im", "4", "5"])
+        self.assertEqual(lines[5].split(), ["2", ".", ".", "-0.883418", "0", "-0.346946", "0.108592"])
+        self.assertEqual(lines[6].split(), ["3", ".", ".", "0", "1", "0.20217", "0.470681"])
+        self.assertEqual(lines[8].split(), ["5", ".", ".", ".", ".", ".", "1"])
+
     def test_request_and_both(self):
         names = [str(EXAMPLES / "slow-mode.txt"), str(EXAMPLES / "slow-mode.sheet")]
         one, two, both = (self.good("show", *some) for some in (names[:1], names[1:], names))
@@ -321,6 +328,12 @@ class ShowCommand(Desk):
             self.file("s", "answer=0\nlanded=0\nswaps=0\ndeclined=0\nt=0000000000000000\nu=\n"),
             "--csv",
             "factor",
+        )
+
+    def test_csv_of_both_is_the_sheet(self):
+        names = [str(EXAMPLES / "slow-mode.txt"), str(EXAMPLES / "slow-mode.sheet")]
+        self.assertEqual(
+            self.good("show", *names, "--csv", "form"), self.good("show", names[1], "--csv", "form")
         )
 
     def test_digits_and_factor(self):
@@ -487,6 +500,11 @@ class PlotCommand(Desk):
         for k, (a, b, c, d) in enumerate(labels):
             for e, f, g, h in labels[:k] + rest:
                 self.assertFalse(a < g and e < c and b < h and f < d)
+
+    def test_up_is_up(self):
+        panel = plot.Panel(0, (-1.0, 1.0), (-1.0, 3.0))
+        self.assertEqual((panel.x(-1.0), panel.x(1.0)), (0, plot.PANEL))
+        self.assertEqual((panel.y(3.0), panel.y(-1.0)), (plot.TOP, plot.TOP + plot.PANEL))
 
     def test_ticks(self):
         self.assertEqual(plot.ticks(-3.4, 0.4), [-3.0, -2.0, -1.0, 0.0])
