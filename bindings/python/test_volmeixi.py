@@ -1,5 +1,5 @@
 """The test of volmeixi.py: document 01's worked values, every refusal, and that a refused call
-leaves its buffers. Those with NumPy are skipped where it is not there."""
+leaves its buffers. Those with NumPy are skipped where it is not there, and tests.py counts that as failed."""
 
 import builtins
 import inspect

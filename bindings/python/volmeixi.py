@@ -14,7 +14,14 @@ buffer.
 
 The shared library, made by bindings/python/build, is VOLMEIXI_LIBRARY, or libvolmeixi.so beside
 this file, or the one in the repository's target/bindings.
+
+`python3 -m volmeixi` is the command of volmeixi_desk: sheets in decimals.
 """
+
+if __name__ == "__main__":  # before the library is asked for: the command says itself what is missing
+    import volmeixi_desk.command
+
+    raise SystemExit(volmeixi_desk.command.main())
 
 import ctypes
 import math
