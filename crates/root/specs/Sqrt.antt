@@ -4,13 +4,21 @@ use Prim.Native.Nat.{ℕ, _+_, _-_, _*_, _/_, _%_, _^_, _≤_, _<_}
 use lib.Ieee.{binary64}
 use Rattle.laws.specs.RootNearest.{inSquares}
 
+-- the number of pattern b is t * 2 ^ `power` squares of the smallest value
+pub record Significand (b t power : ℕ) : Type 0 where
+  pub is : inSquares binary64 b ≡ t * 2 ^ power
+  pub some : 0 < t
+  pub short : t < 2 ^ 53
+  pub least : 1074 ≤ power
+  pub most : power ≤ 3119
+
 -- s places up, the leading digit of t is at 2 ^ 52
 pub record Shift (t s : ℕ) : Type 0 where
   pub low : 2 ^ 52 ≤ t * 2 ^ s
   pub high : t * 2 ^ s < 2 ^ 53
   pub most : s ≤ 52
 
--- the number of pattern b is `digits` * 2 ^ `power` squares of the smallest value, with all 53 digits
+-- the same with all 53 digits
 pub record Parts (b digits power : ℕ) : Type 0 where
   pub is : inSquares binary64 b ≡ digits * 2 ^ power
   pub low : 2 ^ 52 ≤ digits

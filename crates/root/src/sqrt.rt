@@ -7,7 +7,7 @@ ghost use Prim.Native.Nat.{_+_, _*_, _/_, _<_, _≤_, _^_};
 ghost use lib.Dec.{T, eqb};
 ghost use lib.Ieee.{binary64, ofBits, nanBits};
 ghost use Rattle.model.specs.Root as Root;
-ghost use Rattle.root.specs.Sqrt.{Parts, Even, Shift, NearInverse};
+ghost use Rattle.root.specs.Sqrt.{Significand, Shift, Parts, Even, NearInverse};
 use crate::table::line_at;
 
 // The weight of the exponent's field.
@@ -114,31 +114,46 @@ fn nearest_root(d: u64) -> u64
     (whole_root(d) + 1) / 2
 }
 
-// How many places up the leading digit of a subnormal significand has to move.
-fn shift_of(t: u64) -> u32
-    requires { ⌜ (0 < t) × (t < 2 ^ 52) ⌝ }
-    ensures { λ r. ⌜ Shift t r ⌝ }
-{
-    u64::leading_zeros(t) - 11
-}
-
-// The digits and the power of the finite number of pattern b, counted in squares of the smallest.
-fn split(b: u64) -> Scaled
+// The significand of the finite number of pattern b, with the leading digit that the pattern of a
+// normal number leaves out, and its power, counted in squares of the smallest number.
+fn significand(b: u64) -> Scaled
     requires { ⌜ (0 < b) × (b < 0x7ff0_0000_0000_0000) ⌝ }
-    ensures { λ r. ⌜ Parts b (r .digits) (r .power) ⌝ }
+    ensures { λ r. ⌜ Significand b (r .digits) (r .power) ⌝ }
 {
     let e = b / HIDDEN;
     if e == 0 {
-        let s = shift_of(b);
         Scaled {
-            digits: b << s,
-            power: 1074 - s as u64,
+            digits: b,
+            power: 1074,
         }
     } else {
         Scaled {
             digits: HIDDEN + b % HIDDEN,
             power: e + 1073,
         }
+    }
+}
+
+// How many places up the leading digit of a significand has to move: none, but of a subnormal number.
+fn shift_of(t: u64) -> u32
+    requires { ⌜ (0 < t) × (t < 2 ^ 53) ⌝ }
+    ensures { λ r. ⌜ Shift t r ⌝ }
+{
+    u64::leading_zeros(t) - 11
+}
+
+// The same with all 53 digits.
+fn split(b: u64) -> Scaled
+    requires { ⌜ (0 < b) × (b < 0x7ff0_0000_0000_0000) ⌝ }
+    ensures { λ r. ⌜ Parts b (r .digits) (r .power) ⌝ }
+{
+    let n = significand(b);
+    let t = n.digits;
+    let power = n.power;
+    let s = shift_of(t);
+    Scaled {
+        digits: t << s,
+        power: power - s as u64,
     }
 }
 
