@@ -36,14 +36,14 @@ pub record Even (digits power d : ℕ) : Type 0 where
 abbrev pub Under : ℕ → ℕ → Type 0
 Under i h = (h * h * i < 2 ^ 53) × (2 ^ 53 ≤ h * h * i + 2 ^ 40)
 
--- r has the height at the start, and the fall, of a line for m from i / 32 to (i + 1) / 32 that starts and ends under 2 ^ 24 / √m
+-- r has the height at the start, and the fall, of a line for m from i / 32 to (i + 1) / 32; both its ends are under 2 ^ 24 / √m
 pub record Line (i r : ℕ) : Type 0 where
   pub short : r < 2 ^ 48
   pub falls : r % 2 ^ 24 ≤ r / 2 ^ 24
   pub start : Under i (r / 2 ^ 24)
   pub end : Under (i + 1) (r / 2 ^ 24 - r % 2 ^ 24)
 
--- r is no higher than 2 ^ 32 / √m, with m = d / 2 ^ 52, at the start of the line's cell, and no lower than under it at the end
+-- r is near 2 ^ 32 / √m, with m = d / 2 ^ 52: under what that is at the start of the line's stretch of m, and at least what `Under` asks at its end
 pub record NearInverse (d r : ℕ) : Type 0 where
   pub short : r < 2 ^ 32
   pub high : r * r * (d / 2 ^ 47) < 2 ^ 69

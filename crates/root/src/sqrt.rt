@@ -1,6 +1,6 @@
-// The square root of an f64, worked out from its bits: the nearest f64, for every input. One path for
-// every number above zero: its bits; the significand's leading zeros, its shift and exponent; the root
-// of the shifted significand in whole numbers; and the bits of that.
+// The square root of an f64, worked out from its bits: the nearest f64, for every input. Every finite
+// number above zero takes one path: its bits; the leading zeros of its significand, which give shift and
+// exponent; the whole-number root of the shifted significand; and the bits of that.
 ghost use mathlib.Core.Path.{_≡_};
 ghost use mathlib.Core.Bool.{not};
 ghost use Prim.Native.Nat.{_+_, _*_, _/_, _<_, _≤_, _^_};
@@ -49,8 +49,8 @@ fn whole_root(d: u64) -> u64
     if q * q <= u * 0x800_0000 { r } else { r - 1 }
 }
 
-// A number near 2^32 / √m, with m = d / 2^52: by one part in 2^14, along a line of the table. What it
-// promises is that it lies between the line's ends.
+// A number near 2^32 / √m, with m = d / 2^52: on a line of the table, within one part in 2^14. Promised
+// is that it is no higher than where the line starts, and no lower than where it ends.
 fn near_inverse(d: u64) -> u64
     requires { ⌜ (2 ^ 52 ≤ d) × (d < 2 ^ 54) ⌝ }
     ensures { λ r. ⌜ NearInverse d r ⌝ }
@@ -89,10 +89,10 @@ fn is_nearest(d: u64, k: u64) -> bool
     u * 0x800_0000 - q * q < k * 8
 }
 
-// The root of d * 2^52, rounded to the nearest. From y near 2^32 / √m, m = d / 2^52, one step of
-// Newton's for both gives s near 2^31 * √m, from below, and `inverse`, a better y; the rest of the
-// digits are what is left of m over twice the root. How they are found is free, since they are tested;
-// the test fails about once in 200, and then they are worked out.
+// The root of d * 2^52, rounded to the nearest. How its digits are found is free, since they are tested;
+// where the test fails, about once in 200, they are worked out. From y near 2^32 / √m, with m = d / 2^52,
+// one step of Newton's, without a division, gives s just below 2^31 * √m, and a better y; the digits that
+// are left are those of what is left of m, over twice the root.
 fn nearest_root(d: u64) -> u64
     requires { ⌜ (2 ^ 52 ≤ d) × (d < 2 ^ 54) ⌝ }
     ensures { λ r. ⌜ r ≡ (Root.root (d * 2 ^ 54) + 1) / 2 ⌝ }
@@ -142,7 +142,7 @@ fn shift_of(t: u64) -> u32
     u64::leading_zeros(t) - 11
 }
 
-// The same with all 53 digits.
+// The same with all 53 digits: what moves up, and how much the power is less, the leading zeros say.
 fn split(b: u64) -> Scaled
     requires { ⌜ (0 < b) × (b < 0x7ff0_0000_0000_0000) ⌝ }
     ensures { λ r. ⌜ Parts b (r .digits) (r .power) ⌝ }
