@@ -1,8 +1,8 @@
 -- `root::sqrt::is_nearest` meets its contract. With r = 2 * k - 1 parted into s and q at 2 ^ 27, d * 2 ^ 54 is the square of r, less q * q, and u * 2 ^ 27 more; below the next odd square the
--- root is r or r + 1. Assumes nothing.
+-- root is r or r + 1. And where k is nearest, no test before the last turns it away. Assumes nothing.
 use mathlib.Core.Path.{_≡_, sym, _∙_}
 use Prim.Native.Nat.{ℕ, _+_, _-_, _*_, _/_, _%_, _^_, _≤_, _<_}
-use native.Mathlib.Nat.{mul-le-mul, le-of-lt, mod-lt, div-add-mod'}
+use native.Mathlib.Nat.{mul-le-mul}
 use native.Mathlib.Omega.{arith}
 use native.Mathlib.Decide.{decLt}
 use lib.Dec.{eqb, ltb}

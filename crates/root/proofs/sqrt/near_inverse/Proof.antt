@@ -3,7 +3,7 @@ use Prim.Native.Nat.{ℕ, _+_, _-_, _*_, _/_, _%_, _^_, _≤_, _<_}
 use native.Mathlib.Nat.{mul-le-mul, mul-le-mul-right, mul-le-mul-left, le-of-lt}
 use native.Mathlib.Omega.{arith}
 use borrow.Author.Needs.{needs}
-use Rattle.root.specs.Sqrt.{Under, Line, NearInverse}
+use Rattle.root.specs.Sqrt.{Under}
 use Rattle.root.proofs.sqrt.near_inverse.Statement.{statement}
 use Rattle.root.proofs.sqrt.near_inverse.Tie as tie
 
@@ -12,8 +12,8 @@ part : (f a : ℕ) → a < 2 ^ 32 → f * a ≤ f * 2 ^ 32
 part f a h = mul-le-mul-left f (le-of-lt h)
 
 -- r between 2 ^ 8 times the ends h and e
-between : (d i h e r : ℕ) → Under i h → Under (i + 1) e → r ≤ h * 2 ^ 8 → e * 2 ^ 8 ≤ r → (r * r * i < 2 ^ 69) × (2 ^ 69 ≤ r * r * (i + 1) + 2 ^ 56)
-between d i h e r p q u l =
+between : (i h e r : ℕ) → Under i h → Under (i + 1) e → r ≤ h * 2 ^ 8 → e * 2 ^ 8 ≤ r → (r * r * i < 2 ^ 69) × (2 ^ 69 ≤ r * r * (i + 1) + 2 ^ 56)
+between i h e r p q u l =
     let x : r * r * i ≤ h * 2 ^ 8 * (h * 2 ^ 8) * i = mul-le-mul-right i (mul-le-mul u u) in
     let y : e * 2 ^ 8 * (e * 2 ^ 8) * (i + 1) ≤ r * r * (i + 1) = mul-le-mul-right (i + 1) (mul-le-mul l l) in
     (omega (arith, p .0), omega (arith, q .1))
@@ -36,7 +36,7 @@ returns c =
     let l = c .line-at .ensures in
     let d = c .before .args .d in
     let p = part (line % 2 ^ 24) (d / 0x8000 % 2 ^ 32) (omega arith) in
-    let b = between d (d / 2 ^ 47) (line / 2 ^ 24) (line / 2 ^ 24 - line % 2 ^ 24) (line / 2 ^ 24 * 2 ^ 8 - line % 2 ^ 24 * (d / 0x8000 % 2 ^ 32) / 2 ^ 24) (l .start) (l .end) (omega arith) (omega (arith, l .falls)) in
+    let b = between (d / 2 ^ 47) (line / 2 ^ 24) (line / 2 ^ 24 - line % 2 ^ 24) (line / 2 ^ 24 * 2 ^ 8 - line % 2 ^ 24 * (d / 0x8000 % 2 ^ 32) / 2 ^ 24) (l .start) (l .end) (omega arith) (omega (arith, l .falls)) in
     record { short = omega (arith, l .short); high = b .0; low = b .1 }
 
 pub near-inverse-spec : {M : Type 1} → statement M

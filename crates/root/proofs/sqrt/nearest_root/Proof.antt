@@ -1,6 +1,6 @@
 -- `root::sqrt::nearest_root` meets its contract: by the test, or by the whole root. Of the digits that are tested it uses only that they fit. Assumes nothing.
-use mathlib.Core.Path.{_≡_, sym, _∙_}
-use Prim.Native.Nat.{ℕ, zero, suc, _+_, _-_, _*_, _/_, _%_, _^_, _≤_, _<_}
+use mathlib.Core.Path.{sym, _∙_}
+use Prim.Native.Nat.{ℕ, zero, suc, _-_, _*_, _/_, _%_, _^_, _≤_, _<_}
 use native.Mathlib.Nat.{mul-le-mul}
 use native.Mathlib.Omega.{arith}
 use lib.Dec.{eqb→eq}
@@ -10,12 +10,15 @@ use borrow.Author.Needs.{needs}
 use Rattle.root.proofs.sqrt.nearest_root.Statement.{statement}
 use Rattle.root.proofs.sqrt.nearest_root.Tie as tie
 
+-- products of two numbers of 32 bits
 fits : (a b : ℕ) → a < 2 ^ 32 → b < 2 ^ 32 → a * b ≤ 0xffff_ffff * 0xffff_ffff
 fits a b h k = let x : a ≤ 0xffff_ffff = omega arith in let y : b ≤ 0xffff_ffff = omega arith in mul-le-mul x y
 
+-- with what is left of m
 fits-rest : (a b : ℕ) → a < 0xf_0000_0000 → b < 2 ^ 32 → a / 16 * b ≤ 0xf000_0000 * 2 ^ 32
 fits-rest a b h k = let x : a / 16 ≤ 0xf000_0000 = omega arith in let y : b ≤ 2 ^ 32 = omega arith in mul-le-mul x y
 
+-- little is left, so s is not 0
 some : (d s : ℕ) → 2 ^ 52 ≤ d → d * 0x400 - s * s < 0xf_0000_0000 → 0 < s
 some d zero h k = absurd (omega arith)
 some d (suc s) h k = omega arith
