@@ -1,2 +1,3 @@
 // The square root.
 pub mod sqrt;
+mod table;

@@ -10,12 +10,12 @@ use Rattle.root.specs.Sqrt.{Shift}
 use Rattle.root.proofs.sqrt.shift_of.Statement.{statement}
 use Rattle.root.proofs.sqrt.shift_of.Tie as tie
 
-module _ (t : ℕ) (p : 0 < t) (h : t < 2 ^ 52) where
+module _ (t : ℕ) (p : 0 < t) (h : t < 2 ^ 53) where
   top : (j : ℕ) × (leadingZeros 64 t + suc j ≡ 64) × (2 ^ j ≤ t) × (t < 2 ^ suc j)
   top = leading-top 64 t p (omega arith)
 
-  bit : top .0 < 52
-  bit = pow-lt-back (top .0) 52 (lt-of-le-of-lt (top .2) h)
+  bit : top .0 < 53
+  bit = pow-lt-back (top .0) 53 (lt-of-le-of-lt (top .2) h)
 
   enough : 11 ≤ leadingZeros 64 t
   enough = omega (arith, bit, top .1)

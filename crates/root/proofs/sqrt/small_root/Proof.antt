@@ -2,10 +2,9 @@
 -- square of the sum; and it goes down from an r whose square is above d. Assumes nothing.
 use mathlib.Core.Path.{_≡_}
 use Prim.Native.Nat.{ℕ, zero, suc, _+_, _-_, _*_, _/_, _^_, _≤_, _<_}
-use native.Mathlib.Nat.{mul-le-mul, lt-div-mul-add, div-lt-iff-lt-mul, div-le-self, div-le-of-le-mul}
+use native.Mathlib.Nat.{mul-le-mul, lt-div-mul-add, div-lt-iff-lt-mul, div-le-self}
 use native.Mathlib.Decide.{decLe}
 use native.Mathlib.Omega.{arith}
-use borrow.Author.Needs.{needs}
 use Rattle.laws.proofs.WholeRoot.{root-unique}
 use Rattle.root.proofs.sqrt.small_root.Statement.{statement}
 use Rattle.root.proofs.sqrt.small_root.Tie as tie
@@ -35,39 +34,23 @@ some : (d r : ℕ) → d < r * r → 0 < r
 some d zero h = absurd (omega arith)
 some d (suc r) h = omega arith
 
--- from a guess of 2 ^ 25 at least the quotient is below 2 ^ 29
-quotient : (d g : ℕ) → d < 2 ^ 54 → 2 ^ 25 ≤ g → d / g ≤ 2 ^ 29
-quotient d g h l = div-le-of-le-mul g (omega arith)
-
 abbrev Inv-loop : tie.InvT-loop
-Inv-loop d g r₀ r = (d < (r + 1) * (r + 1)) × (r ≤ 2 ^ 29)
+Inv-loop d r₀ r = (d < (r + 1) * (r + 1)) × (r ≤ 2 ^ 27)
 
 abbrev μ-loop : tie.MeasureT-loop
-μ-loop d g r₀ r = r
-
-guess-requires : tie.Need-guess-requires Inv-loop μ-loop
-guess-requires c κs = search needs
-
-div-r : tie.Need-div-r Inv-loop μ-loop
-div-r c = omega arith
-
-add-r : tie.Need-add-r Inv-loop μ-loop
-add-r c = omega (arith, quotient (c .before .args .d) (c .guess .result) (c .before .pre) (c .guess .ensures .0))
+μ-loop d r₀ r = r
 
 loop-holds : tie.Need-loop-holds Inv-loop μ-loop
-loop-holds c =
-    let d = c .before .args .d in
-    let g = c .guess .result in
-    (step-above d g (omega arith), omega (arith, quotient d g (c .before .pre) (c .guess .ensures .0)))
+loop-holds c = (omega arith, omega arith)
 
 mul-loop : tie.Need-mul-loop Inv-loop μ-loop
 mul-loop c = let h = c .loop .inv .1 in omega (arith, mul-le-mul h h)
 
-div-r-2 : tie.Need-div-r-2 Inv-loop μ-loop
-div-r-2 c = some _ (c .before .loop .r) (c .loop-test .taken)
+div-r : tie.Need-div-r Inv-loop μ-loop
+div-r c = some _ (c .before .loop .r) (c .loop-test .taken)
 
-add-r-2 : tie.Need-add-r-2 Inv-loop μ-loop
-add-r-2 c = omega (arith, div-le-self (c .before .before .before .args .d) (c .before .loop .r))
+add-r : tie.Need-add-r Inv-loop μ-loop
+add-r c = omega (arith, div-le-self (c .before .before .args .d) (c .before .loop .r))
 
 loop-less : tie.Need-loop-less Inv-loop μ-loop
 loop-less c = let t = c .loop-test .taken in step-below _ _ (some _ _ t) t
@@ -79,4 +62,4 @@ returns : tie.Need-returns Inv-loop μ-loop
 returns c = root-unique _ _ (c .loop-test .left, c .before .loop .inv .0)
 
 pub small-root-spec : {M : Type 1} → statement M
-small-root-spec = tie.close (tie.spec Inv-loop μ-loop guess-requires div-r add-r loop-holds mul-loop div-r-2 add-r-2 loop-less loop-again returns)
+small-root-spec = tie.close (tie.spec Inv-loop μ-loop loop-holds mul-loop div-r add-r loop-less loop-again returns)

@@ -21,12 +21,15 @@ float-to-bits-b : tie.Need-float-to-bits-b
 unfolding ofBits
 float-to-bits-b c = above-no-nan (c .before .before .args .x) (passed (c .if2 .taken))
 
-root-of-requires : tie.Need-root-of-requires
+root-bits-requires : tie.Need-root-bits-requires
 unfolding ofBits
-root-of-requires c κs = (above-bits binary64 _ (held (c .before .before .before)) (passed (c .before .if2 .taken)), c .if3 .taken)
+root-bits-requires c κs = (above-bits binary64 _ (held (c .before .before .before)) (passed (c .before .if2 .taken)), c .if3 .taken)
+
+float-from-bits-result : tie.Need-float-from-bits-result
+float-from-bits-result c = search needs
 
 returns-2 : tie.Need-returns-2
-returns-2 c = c .root-of .ensures ∙ ap (sqrt binary64) (ofBits-toBits binary64 _ (held (c .before .before .before .before)))
+returns-2 c = c .root-bits .ensures .0 ∙ ap (sqrt binary64) (ofBits-toBits binary64 _ (held (c .before .before .before .before)))
 
 returns-3 : tie.Need-returns-3
 unfolding ofBits
@@ -37,4 +40,4 @@ unfolding ofBits
 returns-4 c = sym (sqrt-itself binary64 _ (failed (c .before .if1 .left)) (failed (c .if2 .left)))
 
 pub sqrt-spec : {M : Type 1} → statement M
-sqrt-spec = tie.close (tie.spec returns float-to-bits-b root-of-requires returns-2 returns-3 returns-4)
+sqrt-spec = tie.close (tie.spec returns float-to-bits-b root-bits-requires float-from-bits-result returns-2 returns-3 returns-4)
