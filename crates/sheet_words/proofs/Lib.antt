@@ -1,3 +1,4 @@
 pub mod Numerals
 pub mod Reading
 pub mod Back
+pub mod Put

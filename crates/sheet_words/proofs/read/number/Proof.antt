@@ -7,8 +7,7 @@ use native.Mathlib.Numerals.{add-one}
 use native.Mathlib.Omega.{arith}
 use lib.ListN.{length, getD, List·getD-eq-default}
 use borrow.Author.Tests.{lt-ltb, le-ltb}
-use Rattle.sheet_words.specs.Read.{numberAt}
-use Rattle.sheet_words.specs.declared.read.Taken.{Taken}
+use Rattle.model.specs.Text.{Taken, numberAt}
 use borrow.Author.Needs.{needs}
 use Rattle.sheet_words.proofs.read.number.Statement.{statement}
 use Rattle.sheet_words.proofs.read.number.Tie as tie

@@ -6,7 +6,7 @@ use native.Mathlib.Nat.{add-zero, add-assoc, lt-of-lt-of-le}
 use native.Mathlib.Omega.{arith}
 use lib.Pow.{pow-add, pow-mono}
 use lib.ListN.{getD}
-use Rattle.sheet_words.specs.Read.{digitOf, digitsFrom}
+use Rattle.model.specs.Text.{digitOf, digitsFrom}
 use borrow.Author.Needs.{needs}
 use Rattle.sheet_words.proofs.read.word.Statement.{statement}
 use Rattle.sheet_words.proofs.read.word.Tie as tie
