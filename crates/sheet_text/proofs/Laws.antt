@@ -1,15 +1,15 @@
 -- A text is that of one request, which is found, and what was printed reads back. Assumes nothing.
 use mathlib.Core.Path.{_≡_, refl, sym, ap, ap₂, _∙_}
-use mathlib.Core.Bool.{Bool, true, false, cond}
-use mathlib.Core.List.{List, [], _∷_, _++_, map}
-use Prim.Native.Nat.{ℕ, zero, suc, _+_, _*_, _^_, _≤_, _<_}
+use mathlib.Core.Bool.{Bool, true, false}
+use mathlib.Core.List.{List, [], _∷_, _++_}
+use Prim.Native.Nat.{ℕ, zero, suc, _+_, _^_, _≤_, _<_}
 use native.Mathlib.Omega.{arith}
 use lib.Dec.{T}
-use lib.ListN.{length, getD, length-append, length-map}
-use lib.Ieee.{Float, nan, binary64, fits, isNan, ofBits, toBits}
+use lib.ListN.{length, length-append, length-map}
+use lib.Ieee.{Float, binary64, fits, isNan, ofBits}
 use lib.Ieee.Bits.{ofBits-toBits, toBits-lt}
 use Rattle.model.specs.Ascii.{ascii}
-use Rattle.model.specs.Text.{Request, textOf, InBounds, words, wordOf, wordsOf, numbers, requestOf, laidOut, printed, answerLine, sheetOf, decimal}
+use Rattle.model.specs.Text.{Request, textOf, InBounds, words, wordOf, wordsOf, numbers, requestOf, laidOut, answerLine, sheetOf}
 use Rattle.sheet_text.specs.Laws.{OneRequest, FoundExactly, SheetOfRequest, SheetOfNone, AllFit, sentBack, RoundTrip}
 use Rattle.bits.proofs.Nan.{nan-is}
 use Rattle.sheet_words.proofs.Reading.{Words64, words-few, decimal-length}

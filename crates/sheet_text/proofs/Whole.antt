@@ -8,30 +8,8 @@ use native.Mathlib.Omega.{arith}
 use lib.Dec.{eqb, ltb, leb}
 use lib.ListN.{length, getD, take, drop, replicate, length-append, length-replicate}
 use lib.Seq.{take-at}
-use borrow.Author.Tests.{ltb-true, ltb-false, le-ltb, lt-ltb, leb-true, le-leb, lt-leb, eq-eqb, eqb-true}
-use Rattle.model.specs.Text.{
-  textBytes,
-  wordRoom,
-  sheetRoom,
-  Request,
-  textOf,
-  InBounds,
-  Taken,
-  numberAt,
-  digitOf,
-  digitsFrom,
-  moreAt,
-  wordsAt,
-  factorPlace,
-  requestOf,
-  same,
-  laidOut,
-  printed,
-  answerLine,
-  sheetOf,
-  Sheet,
-  sheetCall,
-}
+use borrow.Author.Tests.{ltb-false, le-ltb, lt-ltb, leb-true, le-leb, lt-leb, eq-eqb, eqb-true}
+use Rattle.model.specs.Text.{textBytes, wordRoom, sheetRoom, Request, textOf, InBounds, numberAt, digitOf, digitsFrom, moreAt, wordsAt, factorPlace, requestOf, same, laidOut, printed, answerLine, sheetOf, Sheet, sheetCall}
 use Rattle.sheet_words.specs.Put.{Put}
 
 -- ---- a word of 16 digits has 64 bits

@@ -1,12 +1,10 @@
 -- What is taken from the text of a request is the request. Assumes nothing.
-use mathlib.Core.Path.{_≡_, refl, sym, ap, _∙_}
-use mathlib.Core.Bool.{Bool, true, false, cond}
+use mathlib.Core.Path.{_≡_, ap, _∙_}
 use mathlib.Core.List.{List, [], _∷_, _++_, append-assoc}
-use Prim.Native.Nat.{ℕ, zero, suc, _+_, _-_, _*_, _^_, _≤_, _<_}
+use Prim.Native.Nat.{ℕ, suc, _+_, _-_, _*_, _≤_}
 use native.Mathlib.Omega.{arith}
-use lib.Dec.{eqb}
 use borrow.Author.Tests.{ne-eqb}
-use lib.ListN.{length, getD, take, drop, length-append}
+use lib.ListN.{length, drop, length-append}
 use Rattle.model.specs.Ascii.{ascii}
 use Rattle.model.specs.Text.{decimal, words, line, Request, textOf, InBounds, wordRoom, numberAt, wordsAt, factorPlace, requestOf}
 use Rattle.sheet_words.proofs.Reading.{on, past, number-read, words-read, words-length, words-many}

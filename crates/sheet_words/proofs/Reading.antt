@@ -1,15 +1,15 @@
 -- Numbers and words are read back as they were printed. Assumes nothing.
 use mathlib.Core.Path.{_≡_, refl, sym, ap, _∙_}
-use mathlib.Core.Bool.{Bool, true, false, not, cond, true≢false}
+use mathlib.Core.Bool.{Bool, true, false, true≢false}
 use mathlib.Core.List.{List, [], _∷_, _++_, append-assoc}
 use Prim.Native.Nat.{ℕ, zero, suc, _+_, _-_, _*_, _/_, _%_, _^_, _≤_, _<_}
 use native.Mathlib.Nat.{add-zero, mod-lt, div-add-mod', div-lt-iff-lt-mul}
 use native.Mathlib.Omega.{arith}
-use lib.Dec.{eqb, ltb}
-use lib.ListN.{length, getD, take, drop, length-append, length-drop}
+use lib.Dec.{ltb}
+use lib.ListN.{length, getD, drop, length-append, length-drop}
 use lib.Seq.{getD-drop, drop-drop, drop-at, drop-append-add}
-use borrow.Author.Tests.{lt-ltb, le-ltb, le-leb, lt-leb, ltb-true, ltb-false, ne-eqb}
-use Rattle.model.specs.Text.{glyph, decimalIn, decimal, hexIn, word, spaced, words, Taken, numberAt, digitOf, digitsFrom, moreAt, wordsAt}
+use borrow.Author.Tests.{le-ltb, le-leb, lt-leb, ltb-true, ltb-false, ne-eqb}
+use Rattle.model.specs.Text.{glyph, decimalIn, decimal, hexIn, word, spaced, words, numberAt, digitOf, digitsFrom, moreAt, wordsAt}
 
 -- where a word follows, it lies inside the text
 pub more-fits : (s : List ℕ) (p : ℕ) → moreAt s p ≡ true → p + 17 ≤ length s

@@ -1,5 +1,5 @@
 -- `sheet_words::float::words_of` meets its contract. The invariant: what is done, and then the words of the numbers that are left, is the whole; what stands after stays. Assumes nothing.
-use mathlib.Core.Path.{_≡_, refl, sym, ap, _∙_}
+use mathlib.Core.Path.{_≡_, refl, sym, _∙_}
 use mathlib.Core.List.{List, _++_, map, append-nil}
 use Prim.Native.Nat.{ℕ, _+_, _-_, _≤_, _<_}
 use native.Mathlib.Numerals.{add-one}

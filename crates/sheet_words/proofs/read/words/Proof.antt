@@ -1,14 +1,14 @@
 -- `sheet_words::read::words` meets its contract. The invariant: the words that are read, and then those that are left, are the whole; what stands after stays. Assumes nothing.
 use mathlib.Core.Path.{_≡_, refl, sym, _∙_}
 use mathlib.Core.Bool.{true, false}
-use mathlib.Core.List.{List, [], _∷_, _++_, append-nil}
+use mathlib.Core.List.{List, _++_, append-nil}
 use Prim.Native.Nat.{ℕ, suc, _+_, _-_, _*_, _≤_, _<_}
 use native.Mathlib.Nat.{sub-zero}
 use native.Mathlib.Numerals.{add-one}
 use native.Mathlib.Omega.{arith}
 use lib.ListN.{length, take, drop, set, length-set}
 use lib.Seq.{take-suc-set, append-snoc}
-use borrow.Author.Tests.{ltb-false, not-true, not-false}
+use borrow.Author.Tests.{not-true, not-false}
 use Rattle.model.specs.Text.{digitsFrom, moreAt, wordsAt}
 use Rattle.sheet_words.proofs.Reading.{more-fits}
 use Rattle.sheet_words.proofs.Put.{rest-stays, put-start}
