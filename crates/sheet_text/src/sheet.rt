@@ -165,7 +165,9 @@ fn move_and_print(
     to: usize,
 ) -> usize
     requires { ⌜ (Text.sheetRoom ≤ length (now out)) × (length (now x) ≤ Text.wordRoom) × (length (now y) ≤ Text.wordRoom) ⌝ }
-    ensures { λ r. ⌜ (r ≤ length (now (out .exit))) × Put (now (out .entry)) 0 (Text.printedMove (moveCall binary64 n n (now (x .entry)) (now (y .entry)) from to)) (now (out .exit)) r ⌝ }
+    ensures { λ r. ⌜ (r ≤ length (now (out .exit))) × Put (now (out .entry)) 0 (Text.printedMove (moveCall binary64 n n (now (x .entry)) (now (y .entry)) from to)) (now (out .exit)) r
+        × (now (x .exit) ≡ moveCall binary64 n n (now (x .entry)) (now (y .entry)) from to .form)
+        × (now (y .exit) ≡ moveCall binary64 n n (now (x .entry)) (now (y .entry)) from to .factor) ⌝ }
 {
     let m = reorder_schur(n, x, y, from, to);
     print_moved(out, m.answer, m.landed, m.swaps, m.declined, x, y)
