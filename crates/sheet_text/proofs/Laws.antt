@@ -1,29 +1,41 @@
--- A text is that of one request, what is printed for it is settled, and what was printed reads back. Assumes nothing.
+-- A text is that of one request, which is found, and what was printed reads back. Assumes nothing.
 use mathlib.Core.Path.{_≡_, refl, sym, ap, ap₂, _∙_}
-use mathlib.Core.Bool.{Bool, true, false, cond}
-use mathlib.Core.List.{List, [], _∷_, _++_, map}
-use Prim.Native.Nat.{ℕ, zero, suc, _+_, _*_, _^_, _≤_, _<_}
+use mathlib.Core.Bool.{Bool, true, false}
+use mathlib.Core.List.{List, [], _∷_, _++_}
+use Prim.Native.Nat.{ℕ, zero, suc, _+_, _^_, _≤_, _<_}
 use native.Mathlib.Omega.{arith}
 use lib.Dec.{T}
-use lib.ListN.{length, getD, length-append, length-map}
-use lib.Ieee.{Float, nan, binary64, fits, isNan, ofBits, toBits}
+use lib.ListN.{length, length-append, length-map}
+use lib.Ieee.{Float, binary64, fits, isNan, ofBits}
 use lib.Ieee.Bits.{ofBits-toBits, toBits-lt}
 use Rattle.model.specs.Ascii.{ascii}
-use Rattle.model.specs.Text.{Request, textOf, InBounds, words, wordOf, wordsOf, numbers, Sheet, laidOut, notLaidOut, printed, decimal}
-use Rattle.sheet_words.specs.Read.{requestIn}
-use Rattle.sheet_text.specs.Laws.{OneRequest, Settled, AllFit, sentBack, RoundTrip}
-use Rattle.sheet_words.proofs.Nan.{nan-is}
-use Rattle.sheet_words.proofs.Reading.{Words64, words-length, decimal-length}
+use Rattle.model.specs.Text.{Request, textOf, InBounds, words, wordOf, wordsOf, numbers, requestOf, laidOut, answerLine, sheetOf}
+use Rattle.sheet_text.specs.Laws.{OneRequest, FoundExactly, SheetOfRequest, SheetOfNone, AllFit, sentBack, RoundTrip}
+use Rattle.bits.proofs.Nan.{nan-is}
+use Rattle.sheet_words.proofs.Reading.{Words64, words-few, decimal-length}
 use Rattle.sheet_words.proofs.Back.{back, nested, from-n}
+use Rattle.sheet_text.proofs.Whole.{laid-out-if, laid-out-only}
 
 pub one-request : OneRequest
-one-request q r a b e = sym (back 2353 (textOf q) q (omega arith) a refl) ∙ back 2353 (textOf q) r (omega arith) b e
+one-request q r a b e = sym (back (textOf q) q a refl) ∙ back (textOf q) r b e
 
-pub settled : Settled
-settled input a b (laidOut q i e o) (laidOut r j f p) = o ∙ ap printed (one-request q r i j (sym e ∙ f)) ∙ sym p
-settled input a b (laidOut q i e o) (notLaidOut n p) = absurd (n q i e)
-settled input a b (notLaidOut n o) (laidOut r j f p) = absurd (n r j f)
-settled input a b (notLaidOut n o) (notLaidOut m p) = o ∙ sym p
+found : (r : Request) → InBounds r → laidOut (textOf r) ≡ true
+found r b = laid-out-if (textOf r) (b .bytes) (ap textOf (sym (back (textOf r) r b refl)))
+
+pub found-exactly : FoundExactly
+found-exactly = (λ r b. (found r b, back (textOf r) r b refl), laid-out-only)
+
+pub sheet-of-request : SheetOfRequest
+unfolding sheetOf
+sheet-of-request r b = rw (found r b, back (textOf r) r b refl)
+
+pub sheet-of-none : SheetOfNone
+unfolding sheetOf
+sheet-of-none s none = by (laidOut s) refl
+  where
+    by : (t : Bool) → laidOut s ≡ t → sheetOf s ≡ answerLine 1
+    by true e = let h = laid-out-only s e in absurd (none (requestOf s) (h .0) (h .1))
+    by false e = rw e
 
 -- ---- the word of a number reads back as the number
 
@@ -56,11 +68,6 @@ words-64 (x ∷ xs) h zero l = word-64 x (h 0 (omega arith))
 words-64 (x ∷ xs) h (suc i) l = words-64 xs (others-fit x xs h) i (omega arith)
 
 -- ---- and 32 rows of both are within bounds
-
-words-few : (ws : List ℕ) → length (words ws) ≤ 17 * length ws
-unfolding words
-words-few [] = omega arith
-words-few (w ∷ ws) = omega (arith, words-length w ws)
 
 printed-few : (xs : List Float) → length xs ≤ 1024 → length (words (wordsOf xs)) ≤ 17408
 printed-few xs h = omega (arith, words-few (wordsOf xs), length-map xs wordOf)

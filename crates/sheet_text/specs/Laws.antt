@@ -1,19 +1,31 @@
 -- What holds of the text of a sheet, as statements; proofs/Laws.antt has their proofs. Definitions only. Assumes nothing.
 use Prim.Native.Nat.{ℕ, _^_, _≤_, _<_}
 use mathlib.Core.Path.{_≡_}
+use mathlib.Core.Bool.{true}
 use mathlib.Core.List.{List}
 use lib.Dec.{T}
 use lib.ListN.{length, getD}
 use lib.Ieee.{Float, nan, binary64, fits}
-use Rattle.model.specs.Text.{Request, textOf, InBounds, numbers, wordsOf, Sheet}
+use Rattle.model.specs.Text.{Request, textOf, InBounds, requestOf, laidOut, numbers, wordsOf, printed, answerLine, sheetOf}
 
 -- a text is that of one request at most
 abbrev pub OneRequest : Type 0
 OneRequest = (q r : Request) → InBounds q → InBounds r → textOf q ≡ textOf r → q ≡ r
 
--- so what is printed for a text is settled
-abbrev pub Settled : Type 0
-Settled = (input a b : List ℕ) → Sheet input a → Sheet input b → a ≡ b
+-- A request is found exactly where the text is the printing of one: the text of a request in bounds is laid out and taken to say that
+-- request, and a text that is laid out is that of a request in bounds.
+abbrev pub FoundExactly : Type 0
+FoundExactly =
+    ((r : Request) → InBounds r → (laidOut (textOf r) ≡ true) × (requestOf (textOf r) ≡ r))
+    × ((s : List ℕ) → laidOut s ≡ true → InBounds (requestOf s) × (s ≡ textOf (requestOf s)))
+
+-- So the sheet of a text is what is printed for the request whose text it is,
+abbrev pub SheetOfRequest : Type 0
+SheetOfRequest = (r : Request) → InBounds r → sheetOf (textOf r) ≡ printed r
+
+-- and the answer 1 where it is the text of none.
+abbrev pub SheetOfNone : Type 0
+SheetOfNone = (s : List ℕ) → ((r : Request) → InBounds r → s ≡ textOf r → ⊥) → sheetOf s ≡ answerLine 1
 
 -- all are f64
 abbrev pub AllFit : List Float → Type 0

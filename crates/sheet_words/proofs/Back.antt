@@ -1,15 +1,12 @@
 -- What is taken from the text of a request is the request. Assumes nothing.
-use mathlib.Core.Path.{_≡_, refl, sym, ap, _∙_}
-use mathlib.Core.Bool.{Bool, true, false, cond}
+use mathlib.Core.Path.{_≡_, ap, _∙_}
 use mathlib.Core.List.{List, [], _∷_, _++_, append-assoc}
-use Prim.Native.Nat.{ℕ, zero, suc, _+_, _-_, _*_, _^_, _≤_, _<_}
+use Prim.Native.Nat.{ℕ, suc, _+_, _-_, _*_, _≤_}
 use native.Mathlib.Omega.{arith}
-use lib.Dec.{eqb}
 use borrow.Author.Tests.{ne-eqb}
-use lib.ListN.{length, getD, take, drop, length-append}
+use lib.ListN.{length, drop, length-append}
 use Rattle.model.specs.Ascii.{ascii}
-use Rattle.model.specs.Text.{decimal, words, line, Request, textOf, InBounds}
-use Rattle.sheet_words.specs.Read.{numberAt, wordsAt, factorPlace, requestIn}
+use Rattle.model.specs.Text.{decimal, words, line, Request, textOf, InBounds, wordRoom, numberAt, wordsAt, factorPlace, requestOf}
 use Rattle.sheet_words.proofs.Reading.{on, past, number-read, words-read, words-length, words-many}
 
 line-then : (name says rest : List ℕ) → line name says ++ rest ≡ name ++ (says ++ 10 ∷ rest)
@@ -92,16 +89,16 @@ unfolding words
 at-factor s [] l p h = rw (place-none p) (on s p 3 (61 ∷ 10 ∷ 117 ∷ l) h)
 at-factor s (w ∷ ws) l p h = rw (place-some p w ws) (past s p 2 (61 ∷ words (w ∷ ws)) (10 ∷ 117 ∷ l) h)
 
--- 40,000 bytes have room for 2352 words
+-- 40,000 bytes hold 2352 words at most
 many : (r : Request) → InBounds r → 17 * length (r .form) + 17 * length (r .factor) ≤ 40000
 many r b =
     let n : length (textOf r) ≡ length (ascii "n=" ++ from-n r) = ap length (nested r) in
     let m = simp length-append at n in
     omega (arith, b .bytes, m, words-many (r .form), words-many (r .factor))
 
-pub back : (k : ℕ) (s : List ℕ) (r : Request) → 2353 ≤ k → InBounds r → s ≡ textOf r → requestIn k s ≡ r
-unfolding requestIn
-back k s r h b e =
+pub back : (s : List ℕ) (r : Request) → InBounds r → s ≡ textOf r → requestOf s ≡ r
+unfolding requestOf
+back s r b e =
     let p = 2 + length (decimal (r .n)) + 6 in
     let q = p + length (decimal (r .from)) + 4 in
     let t = q + length (decimal (r .to)) + 2 in
@@ -112,6 +109,6 @@ back k s r h b e =
       n-read s r b e,
       from-read s r b e p (at-from s r b e),
       to-read s r b e q at-q,
-      form-read s r b e k t (omega arith) at-t,
-      factor-read s r b e k (factorPlace t (length (r .form))) (omega arith) (at-factor s (r .form) (from-factor r) t at-t),
+      form-read s r b e wordRoom t (omega arith) at-t,
+      factor-read s r b e wordRoom (factorPlace t (length (r .form))) (omega arith) (at-factor s (r .form) (from-factor r) t at-t),
     )

@@ -1,4 +1,4 @@
 pub mod Numerals
 pub mod Reading
 pub mod Back
-pub mod Nan
+pub mod Put

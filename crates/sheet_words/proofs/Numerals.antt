@@ -1,14 +1,13 @@
 -- The digits that io writes are those of the definitions. Assumes nothing.
-use mathlib.Core.Path.{_≡_, refl, sym, ap, _∙_}
-use mathlib.Core.Bool.{Bool, true, false, cond}
-use mathlib.Core.List.{List, [], _∷_, _++_, append-assoc}
+use mathlib.Core.Path.{_≡_, refl}
+use mathlib.Core.Bool.{Bool, true, false}
 use Prim.Native.Nat.{ℕ, zero, suc, _+_, _-_, _*_, _/_, _%_, _^_, _≤_, _<_}
 use native.Mathlib.Nat.{mod-lt, mod-eq-of-lt, div-lt-iff-lt-mul, le-div-iff-mul-le, pow-le-pow-right}
 use native.Mathlib.Omega.{arith}
 use lib.Dec.{leb}
 use borrow.Author.Tests.{lt-ltb, le-ltb, leb-true, leb-false}
 use Rattle.io.specs.Digits.{digits, Fewest}
-use Rattle.model.specs.Text.{glyph, decimalIn, hexIn}
+use Rattle.model.specs.Text.{glyph, decimalIn, hexIn, word}
 
 -- a decimal digit's byte
 glyph-decimal : (d : ℕ) → d < 10 → glyph d ≡ 48 + d
@@ -54,6 +53,6 @@ at-most-20 k n h f = at-most 10 1 20 k n (omega arith) (omega arith) (omega arit
 pub sixteen : (k n : ℕ) → n < 2 ^ 64 → Fewest 16 16 n k → k ≡ 16
 sixteen k n h f = omega (arith, at-most 16 16 16 k n (omega arith) (omega arith) (omega arith) f, f .0)
 
--- a line after what stands before it
-pub joined : (before name says : List ℕ) → before ++ name ++ says ++ (10 ∷ []) ≡ before ++ (name ++ says ++ (10 ∷ []))
-joined before name says = simp append-assoc
+pub hex-digits : (k w : ℕ) → k ≡ 16 → digits 16 k w ≡ word w
+unfolding hexIn
+hex-digits k w e = rw e

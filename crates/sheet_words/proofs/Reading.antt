@@ -1,17 +1,15 @@
 -- Numbers and words are read back as they were printed. Assumes nothing.
 use mathlib.Core.Path.{_≡_, refl, sym, ap, _∙_}
-use mathlib.Core.Bool.{Bool, true, false, not, cond, true≢false}
+use mathlib.Core.Bool.{Bool, true, false, true≢false}
 use mathlib.Core.List.{List, [], _∷_, _++_, append-assoc}
 use Prim.Native.Nat.{ℕ, zero, suc, _+_, _-_, _*_, _/_, _%_, _^_, _≤_, _<_}
 use native.Mathlib.Nat.{add-zero, mod-lt, div-add-mod', div-lt-iff-lt-mul}
 use native.Mathlib.Omega.{arith}
-use lib.Dec.{eqb, ltb}
-use lib.ListN.{length, getD, take, drop, length-append, length-drop}
+use lib.Dec.{ltb}
+use lib.ListN.{length, getD, drop, length-append, length-drop}
 use lib.Seq.{getD-drop, drop-drop, drop-at, drop-append-add}
-use borrow.Author.Tests.{lt-ltb, le-ltb, le-leb, lt-leb, ltb-true, ltb-false, ne-eqb}
-use Rattle.model.specs.Text.{glyph, decimalIn, decimal, hexIn, word, spaced, words}
-use Rattle.sheet_words.specs.declared.read.Taken.{Taken}
-use Rattle.sheet_words.specs.Read.{numberAt, digitOf, digitsFrom, moreAt, wordsAt}
+use borrow.Author.Tests.{le-ltb, le-leb, lt-leb, ltb-true, ltb-false, ne-eqb}
+use Rattle.model.specs.Text.{glyph, decimalIn, decimal, hexIn, word, spaced, words, numberAt, digitOf, digitsFrom, moreAt, wordsAt}
 
 -- where a word follows, it lies inside the text
 pub more-fits : (s : List ℕ) (p : ℕ) → moreAt s p ≡ true → p + 17 ≤ length s
@@ -86,7 +84,7 @@ hex-value (suc k) w h =
     let l : w / 16 < 16 ^ k = div-lt-iff-lt-mul {k = 16} {x = w} {y = 16 ^ k} (omega arith) .1 g in
     rw (fold-snoc 16 digitOf 0 (hexIn k (w / 16)) (glyph (w % 16)), hex-value k (w / 16) l, hex-digit (w % 16) (mod-lt w (omega arith))) (div-add-mod' w 16)
 
-hex-length : (k w : ℕ) → length (hexIn k w) ≡ k
+pub hex-length : (k w : ℕ) → length (hexIn k w) ≡ k
 unfolding hexIn
 hex-length zero w = refl
 hex-length (suc k) w = rw (length-append (hexIn k (w / 16)) (glyph (w % 16) ∷ []), hex-length k (w / 16)) (omega arith)
@@ -245,6 +243,11 @@ spaced-length (w ∷ ws) = rw (length-append (word w) (spaced ws), hex-length 16
 pub words-length : (w : ℕ) (ws : List ℕ) → suc (length (words (w ∷ ws))) ≡ 17 * length (w ∷ ws)
 unfolding words
 words-length w ws = rw (length-append (word w) (spaced ws), hex-length 16 w, spaced-length ws) (omega arith)
+
+pub words-few : (ws : List ℕ) → length (words ws) ≤ 17 * length ws
+unfolding words
+words-few [] = omega arith
+words-few (w ∷ ws) = omega (arith, words-length w ws)
 
 pub words-many : (ws : List ℕ) → 17 * length ws ≤ suc (length (words ws))
 words-many [] = omega arith

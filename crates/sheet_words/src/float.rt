@@ -1,27 +1,10 @@
 // Words as numbers and back: an f64 by its bits, every NaN as one.
 ghost use mathlib.Core.Path.{_≡_};
-ghost use mathlib.Core.List.{map};
+ghost use mathlib.Core.List.{_++_};
 ghost use Prim.Native.Nat.{_≤_};
-ghost use lib.ListN.{length, take};
-ghost use lib.Ieee.{binary64, ofBits, nanBits};
+ghost use lib.ListN.{length, drop};
 ghost use Rattle.model.specs.Text as Text;
-
-// Whether w is a NaN's pattern.
-fn is_nan(w: u64) -> bool
-    ensures { λ r. ⌜ r ≡ nanBits binary64 w ⌝ }
-{
-    w % 0x8000_0000_0000_0000 > 0x7ff0_0000_0000_0000
-}
-
-// The number of the bits w. A NaN's pattern of any payload is the one NaN.
-fn number_of(w: u64) -> f64
-    ensures { λ r. ⌜ r ≡ ofBits binary64 w ⌝ }
-{
-    if is_nan(w) {
-        return 0.0 / 0.0;
-    }
-    f64::from_bits(w)
-}
+use bits::float::floats_of;
 
 // The bits of a number, and of a NaN always the same.
 fn word_of(x: f64) -> u64
@@ -33,22 +16,19 @@ fn word_of(x: f64) -> u64
     f64::to_bits(x)
 }
 
-// The numbers of all words, at the start of `out`.
+// The numbers of all words, at the start of `out`. The rest of it stays.
 pub fn numbers_of(out: &mut [f64], w: &[u64])
     requires { ⌜ length (now w) ≤ length (now out) ⌝ }
-    ensures { λ _. ⌜ take (length (now (w .entry))) (now (out .exit)) ≡ Text.numbers (now (w .entry)) ⌝ }
+    ensures { λ _. ⌜ now (out .exit) ≡ Text.numbers (now (w .entry)) ++ drop (length (now (w .entry))) (now (out .entry)) ⌝ }
 {
-    let mut i = 0;
-    while i < w.len() {
-        out[i] = number_of(w[i]);
-        i += 1;
-    }
+    let k = w.len();
+    floats_of(w, &mut out[..k]);
 }
 
-// The words of all numbers, at the start of `out`.
+// The words of all numbers, at the start of `out`. The rest of it stays.
 pub fn words_of(out: &mut [u64], x: &[f64])
     requires { ⌜ length (now x) ≤ length (now out) ⌝ }
-    ensures { λ _. ⌜ take (length (now (x .entry))) (now (out .exit)) ≡ Text.wordsOf (now (x .entry)) ⌝ }
+    ensures { λ _. ⌜ now (out .exit) ≡ Text.wordsOf (now (x .entry)) ++ drop (length (now (x .entry))) (now (out .entry)) ⌝ }
 {
     let mut i = 0;
     while i < x.len() {

@@ -1,15 +1,15 @@
-// Printing: each function writes at a place of `out` and answers the place after what it wrote.
-// What stands before the place stays; what stands after it is nobody's concern.
+// Printing: each function writes at a place of `out` and answers the place after what it wrote. What
+// stands before and after it stays.
 ghost use mathlib.Core.Path.{_≡_};
-ghost use mathlib.Core.List.{_++_, _∷_, []};
 ghost use Prim.Native.Nat.{_+_, _*_, _≤_};
-ghost use lib.ListN.{length, take};
+ghost use lib.ListN.{length};
 ghost use Rattle.model.specs.Text as Text;
+ghost use Rattle.sheet_words.specs.Put.{Put};
 
 // Bytes as they are.
 fn put(out: &mut [u8], at: usize, text: &[u8]) -> usize
     requires { ⌜ at + length (now text) ≤ length (now out) ⌝ }
-    ensures { λ r. ⌜ (r ≡ at + length (now (text .entry))) × (take r (now (out .exit)) ≡ take at (now (out .entry)) ++ now (text .entry)) ⌝ }
+    ensures { λ r. ⌜ Put (now (out .entry)) at (now (text .entry)) (now (out .exit)) r ⌝ }
 {
     let mut i = 0;
     while i < text.len() {
@@ -22,7 +22,7 @@ fn put(out: &mut [u8], at: usize, text: &[u8]) -> usize
 // A number in decimal.
 fn put_decimal(out: &mut [u8], at: usize, n: u64) -> usize
     requires { ⌜ at + 20 ≤ length (now out) ⌝ }
-    ensures { λ r. ⌜ (r ≤ at + 20) × (take r (now (out .exit)) ≡ take at (now (out .entry)) ++ Text.decimal n) ⌝ }
+    ensures { λ r. ⌜ (r ≤ at + 20) × Put (now (out .entry)) at (Text.decimal n) (now (out .exit)) r ⌝ }
 {
     let mut digits = [0u8; 20];
     let k = io::decimal(n, &mut digits);
@@ -32,7 +32,7 @@ fn put_decimal(out: &mut [u8], at: usize, n: u64) -> usize
 // A word.
 fn put_word(out: &mut [u8], at: usize, w: u64) -> usize
     requires { ⌜ at + 16 ≤ length (now out) ⌝ }
-    ensures { λ r. ⌜ (r ≡ at + 16) × (take r (now (out .exit)) ≡ take at (now (out .entry)) ++ Text.word w) ⌝ }
+    ensures { λ r. ⌜ (r ≡ at + 16) × Put (now (out .entry)) at (Text.word w) (now (out .exit)) r ⌝ }
 {
     let mut digits = [0u8; 16];
     let k = io::hex(w, 16, &mut digits);
@@ -42,7 +42,7 @@ fn put_word(out: &mut [u8], at: usize, w: u64) -> usize
 // The words after the first, with a space before each.
 fn put_spaced(out: &mut [u8], at: usize, w: &[u64]) -> usize
     requires { ⌜ at + 17 * length (now w) ≤ length (now out) ⌝ }
-    ensures { λ r. ⌜ (r ≡ at + 17 * length (now (w .entry))) × (take r (now (out .exit)) ≡ take at (now (out .entry)) ++ Text.spaced (now (w .entry))) ⌝ }
+    ensures { λ r. ⌜ (r ≡ at + 17 * length (now (w .entry))) × Put (now (out .entry)) at (Text.spaced (now (w .entry))) (now (out .exit)) r ⌝ }
 {
     let mut p = at;
     let mut i = 0;
@@ -57,7 +57,7 @@ fn put_spaced(out: &mut [u8], at: usize, w: &[u64]) -> usize
 // Words with one space between.
 fn put_words(out: &mut [u8], at: usize, w: &[u64]) -> usize
     requires { ⌜ at + 17 * length (now w) ≤ length (now out) ⌝ }
-    ensures { λ r. ⌜ (r ≤ at + 17 * length (now (w .entry))) × (take r (now (out .exit)) ≡ take at (now (out .entry)) ++ Text.words (now (w .entry))) ⌝ }
+    ensures { λ r. ⌜ (r ≤ at + 17 * length (now (w .entry))) × Put (now (out .entry)) at (Text.words (now (w .entry))) (now (out .exit)) r ⌝ }
 {
     if w.len() == 0 {
         return at;
@@ -69,7 +69,7 @@ fn put_words(out: &mut [u8], at: usize, w: &[u64]) -> usize
 // The line of a number.
 fn put_number_line(out: &mut [u8], at: usize, name: &[u8], n: usize) -> usize
     requires { ⌜ (length (now name) ≤ 9) × (at + 30 ≤ length (now out)) ⌝ }
-    ensures { λ r. ⌜ (r ≤ at + 30) × (take r (now (out .exit)) ≡ take at (now (out .entry)) ++ Text.line (now (name .entry)) (Text.decimal n)) ⌝ }
+    ensures { λ r. ⌜ (r ≤ at + 30) × Put (now (out .entry)) at (Text.line (now (name .entry)) (Text.decimal n)) (now (out .exit)) r ⌝ }
 {
     let p = put(out, at, name);
     let q = put_decimal(out, p, n as u64);
@@ -79,7 +79,7 @@ fn put_number_line(out: &mut [u8], at: usize, name: &[u8], n: usize) -> usize
 // The line of a form's or a factor's words.
 fn put_words_line(out: &mut [u8], at: usize, name: &[u8], w: &[u64]) -> usize
     requires { ⌜ (length (now name) ≤ 9) × (at + 10 + 17 * length (now w) ≤ length (now out)) ⌝ }
-    ensures { λ r. ⌜ (r ≤ at + 10 + 17 * length (now (w .entry))) × (take r (now (out .exit)) ≡ take at (now (out .entry)) ++ Text.line (now (name .entry)) (Text.words (now (w .entry)))) ⌝ }
+    ensures { λ r. ⌜ (r ≤ at + 10 + 17 * length (now (w .entry))) × Put (now (out .entry)) at (Text.line (now (name .entry)) (Text.words (now (w .entry)))) (now (out .exit)) r ⌝ }
 {
     let p = put(out, at, name);
     let q = put_words(out, p, w);
@@ -89,7 +89,7 @@ fn put_words_line(out: &mut [u8], at: usize, name: &[u8], w: &[u64]) -> usize
 // The `answer=` line, alone.
 pub fn put_answer(out: &mut [u8], answer: usize) -> usize
     requires { ⌜ 30 ≤ length (now out) ⌝ }
-    ensures { λ r. ⌜ (r ≤ length (now (out .exit))) × (take r (now (out .exit)) ≡ Text.answerLine answer) ⌝ }
+    ensures { λ r. ⌜ (r ≤ length (now (out .exit))) × Put (now (out .entry)) 0 (Text.answerLine answer) (now (out .exit)) r ⌝ }
 {
     put_number_line(out, 0, b"answer=", answer)
 }
@@ -97,7 +97,7 @@ pub fn put_answer(out: &mut [u8], answer: usize) -> usize
 // The text of a request.
 pub fn put_request(out: &mut [u8], n: usize, from: usize, to: usize, t: &[u64], u: &[u64]) -> usize
     requires { ⌜ 110 + 17 * length (now t) + 17 * length (now u) ≤ length (now out) ⌝ }
-    ensures { λ r. ⌜ (r ≤ length (now (out .exit))) × (take r (now (out .exit)) ≡ Text.textOf (record { n = n; from = from; to = to; form = now (t .entry); factor = now (u .entry) })) ⌝ }
+    ensures { λ r. ⌜ (r ≤ length (now (out .exit))) × Put (now (out .entry)) 0 (Text.textOf (record { n = n; from = from; to = to; form = now (t .entry); factor = now (u .entry) })) (now (out .exit)) r ⌝ }
 {
     let a = put_number_line(out, 0, b"n=", n);
     let b = put_number_line(out, a, b"from=", from);
@@ -116,7 +116,7 @@ pub fn put_accepted(
     u: &[u64],
 ) -> usize
     requires { ⌜ 140 + 17 * length (now t) + 17 * length (now u) ≤ length (now out) ⌝ }
-    ensures { λ r. ⌜ (r ≤ length (now (out .exit))) × (take r (now (out .exit)) ≡ Text.accepted landed swaps declined (now (t .entry)) (now (u .entry))) ⌝ }
+    ensures { λ r. ⌜ (r ≤ length (now (out .exit))) × Put (now (out .entry)) 0 (Text.accepted landed swaps declined (now (t .entry)) (now (u .entry))) (now (out .exit)) r ⌝ }
 {
     let a = put_number_line(out, 0, b"answer=", 0);
     let b = put_number_line(out, a, b"landed=", landed);

@@ -1,7 +1,7 @@
 -- `sheet::main` meets its contract. Assumes nothing.
 use mathlib.Core.Path.{sym}
 use lib.Seq.{length-take-le}
-use native.Mathlib.Omega.{arith}
+use Rattle.sheet_text.proofs.Whole.{inside}
 use borrow.Author.Needs.{needs}
 use Rattle.sheet.proofs.main.Statement.{statement}
 use Rattle.sheet.proofs.main.Tie as tie
@@ -31,12 +31,13 @@ sheet-requires : tie.Need-sheet-requires
 sheet-requires c κs = search needs
 
 array-share-prefix-out : tie.Need-array-share-prefix-out
-array-share-prefix-out c = let s = c .before .sheet in omega (arith, s .ensures .0 (search needs) .0, s .kept .0)
+array-share-prefix-out c = let s = c .before .sheet in inside _ _ _ _ (s .ensures) (s .kept .0)
 
 slice-aggregate-write-all : tie.Need-slice-aggregate-write-all
 slice-aggregate-write-all c =
     let at-sheet = c .before .before in
-    sym (length-take-le _ _ (let s = at-sheet .sheet in omega (arith, s .ensures .0 (search needs) .0, s .kept .0)))
+    let s = at-sheet .sheet in
+    sym (length-take-le _ _ (inside _ _ _ _ (s .ensures) (s .kept .0)))
 
 write-all-requires : tie.Need-write-all-requires
 write-all-requires c κs = search needs

@@ -1,7 +1,7 @@
 -- `sheet_text::sheet::factor_place` meets its contract. Assumes nothing.
 use native.Mathlib.Omega.{arith}
 use borrow.Author.Tests.{eq-eqb, ne-eqb}
-use Rattle.sheet_words.specs.Read.{factorPlace}
+use Rattle.model.specs.Text.{factorPlace}
 use borrow.Author.Needs.{needs}
 use Rattle.sheet_text.proofs.sheet.factor_place.Statement.{statement}
 use Rattle.sheet_text.proofs.sheet.factor_place.Tie as tie

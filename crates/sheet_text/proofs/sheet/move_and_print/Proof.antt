@@ -1,6 +1,8 @@
 -- `sheet_text::sheet::move_and_print` meets its contract. Assumes nothing.
-use mathlib.Core.Path.{_≡_, refl, sym, ap, _∙_}
+use mathlib.Core.Path.{ap}
+use Rattle.model.specs.Move.{Moved}
 use Rattle.model.specs.Text.{printedMove}
+use Rattle.sheet_words.proofs.Put.{as-list}
 use borrow.Author.Needs.{needs}
 use Rattle.sheet_text.proofs.sheet.move_and_print.Statement.{statement}
 use Rattle.sheet_text.proofs.sheet.move_and_print.Tie as tie
@@ -24,7 +26,12 @@ returns : tie.Need-returns
 returns c =
     let at-print-moved = c .before .before in
     let at-reorder-schur = at-print-moved .before .before .before .before .before .before .before .before in
-    (at-print-moved .print-moved .ensures .0, at-print-moved .print-moved .ensures .1 ∙ ap printedMove (at-reorder-schur .reorder-schur .ensures))
+    let m = at-reorder-schur .reorder-schur .ensures in (
+      at-print-moved .print-moved .ensures .0,
+      as-list _ _ _ _ _ _ (ap printedMove m) (at-print-moved .print-moved .ensures .1),
+      ap (λ (x : Moved). x .form) m,
+      ap (λ (x : Moved). x .factor) m,
+    )
 
 pub move-and-print-spec : {M : Type 1} → statement M
 move-and-print-spec =

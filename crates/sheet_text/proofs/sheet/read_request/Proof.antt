@@ -1,6 +1,8 @@
 -- `sheet_text::sheet::read_request` meets its contract, part by part. Assumes nothing.
-use mathlib.Core.Path.{_≡_, refl, sym, ap, _∙_}
-use native.Mathlib.Omega.{arith}
+use mathlib.Core.Path.{ap, _∙_}
+use Prim.Native.Nat.{ℕ, _+_}
+use Rattle.model.specs.Text.{wordsAt}
+use Rattle.sheet_words.proofs.Put.{as-list}
 use Rattle.sheet_text.proofs.Whole.{parts}
 use borrow.Author.Needs.{needs}
 use Rattle.sheet_text.proofs.sheet.read_request.Statement.{statement}
@@ -48,7 +50,16 @@ returns c =
     let at-number2 = at-number3 .before .before in
     let at-number = at-number2 .before .before in
     let at-start = at-number .before .before .before .before in
-    (at-words .words .ensures .0, at-words2 .words2 .ensures .0, at-number .number .ensures .1, at-number2 .number2 .ensures .1, at-number3 .number3 .ensures .1, parts (at-start .args .s .now) (at-words .words .last .0) (at-words2 .words2 .last .0) (at-number .number .result) (at-number2 .number2 .result) (at-number3 .number3 .result) (at-words .words .result) (at-words2 .words2 .result) (at-factor-place .factor-place .result) (at-number .number .ensures .0) (at-number2 .number2 .ensures .0) (at-number3 .number3 .ensures .0) (at-words .words .ensures .0) (rw (at-start .pre .0) at (at-words .words .ensures .1)) (at-factor-place .factor-place .ensures .0) (rw (at-start .pre .1) at (at-words2 .words2 .ensures .1)))
+    let s = at-start .args .s .now in
+    let q = parts s _ _ _ _ _ _ _ _ (at-number .number .ensures .0) (at-number2 .number2 .ensures .0) (at-number3 .number3 .ensures .0) (rw (at-start .pre .0) at (at-words .words .ensures .1 .0)) (at-factor-place .factor-place .ensures .0) in (
+      at-words .words .ensures .0,
+      at-words2 .words2 .ensures .0,
+      q .0,
+      q .1,
+      q .2,
+      as-list _ _ _ _ _ _ (ap (λ (j : ℕ). wordsAt s j (at-number3 .number3 .result .next + 2)) (at-start .pre .0) ∙ q .3) (at-words .words .ensures .1),
+      as-list _ _ _ _ _ _ (ap (λ (j : ℕ). wordsAt s j (at-factor-place .factor-place .result)) (at-start .pre .1) ∙ q .4) (at-words2 .words2 .ensures .1),
+    )
 
 pub read-request-spec : {M : Type 1} → statement M
 read-request-spec =

@@ -1,14 +1,24 @@
 -- `sheet_text::sheet::run` meets its contract. Assumes nothing.
-use mathlib.Core.Path.{_≡_, refl, sym, ap, _∙_}
+use mathlib.Core.Path.{_≡_, sym}
 use native.Mathlib.Omega.{arith}
-use Prim.Native.Nat.{_≤_}
-use lib.ListN.{length}
+use Prim.Native.Nat.{ℕ, _≤_}
+use mathlib.Core.List.{List}
+use lib.ListN.{length, length-map}
 use lib.Seq.{length-take-le}
+use lib.Ieee.{Float, binary64, ofBits}
 use borrow.Author.Tests.{eq-eqb, ne-eqb, lt-ltb, le-ltb}
-use Rattle.model.specs.Text.{printed}
+use Rattle.model.specs.Move.{moveCall}
+use Rattle.model.specs.Text.{numbers, printedMove, printed}
+use Rattle.sheet_words.proofs.Put.{as-list}
+use Rattle.sheet_text.proofs.Whole.{front}
 use borrow.Author.Needs.{needs}
 use Rattle.sheet_text.proofs.sheet.run.Statement.{statement}
 use Rattle.sheet_text.proofs.sheet.run.Tie as tie
+
+whole : (n from to : ℕ) (t u : List ℕ) (x y : List Float) → (n ≡ 0 → ⊥) → n ≤ 32 → x ≡ numbers t → y ≡ numbers u
+    → printedMove (moveCall binary64 n n x y from to) ≡ printed (record { n = n; from = from; to = to; form = t; factor = u })
+unfolding printed
+whole n from to t u x y a b ex ey = rw (ne-eqb n 0 a, le-ltb 32 n b, ex, ey)
 
 put-answer-requires : tie.Need-put-answer-requires
 put-answer-requires c κs = search needs
@@ -63,7 +73,7 @@ slice-aggregate-move-and-print c =
     let at-numbers-of = c .before .before .before .before .before .before in
     let at-number-room = at-numbers-of .before .before .before in
     let at-start = at-number-room .before .before .before .before .before .before in
-    sym (length-take-le _ _ (omega (arith, at-numbers-of .numbers-of .kept .0, at-number-room .number-room .ensures, at-start .pre .1)))
+    sym (length-take-le _ _ (omega (arith, at-numbers-of .numbers-of .kept .0, at-number-room .number-room .ensures .0, at-start .pre .1)))
 
 array-borrow-prefix-y : tie.Need-array-borrow-prefix-y
 array-borrow-prefix-y c = search needs
@@ -73,7 +83,7 @@ slice-aggregate-move-and-print-2 c =
     let at-numbers-of2 = c .before .before .before .before in
     let at-number-room2 = at-numbers-of2 .before .before .before .before .before in
     let at-start = at-number-room2 .before .before .before .before .before .before .before in
-    sym (length-take-le _ _ (omega (arith, at-numbers-of2 .numbers-of2 .kept .0, at-number-room2 .number-room2 .ensures, at-start .pre .2)))
+    sym (length-take-le _ _ (omega (arith, at-numbers-of2 .numbers-of2 .kept .0, at-number-room2 .number-room2 .ensures .0, at-start .pre .2)))
 
 move-and-print-requires : tie.Need-move-and-print-requires
 move-and-print-requires c κs =
@@ -82,22 +92,25 @@ move-and-print-requires c κs =
     let at-number-room2 = at-numbers-of .before .before in
     let at-number-room = at-number-room2 .before in
     let at-start = at-number-room .before .before .before .before .before .before in
-    let a : length (at-start .args .t .now) ≤ length (at-numbers-of .numbers-of .last .0) = omega (arith, at-numbers-of .numbers-of .kept .0, at-number-room .number-room .ensures, at-start .pre .1) in
-    let b : length (at-start .args .u .now) ≤ length (at-numbers-of2 .numbers-of2 .last .0) = omega (arith, at-numbers-of2 .numbers-of2 .kept .0, at-number-room2 .number-room2 .ensures, at-start .pre .2) in
+    let a : length (at-start .args .t .now) ≤ length (at-numbers-of .numbers-of .last .0) = omega (arith, at-numbers-of .numbers-of .kept .0, at-number-room .number-room .ensures .0, at-start .pre .1) in
+    let b : length (at-start .args .u .now) ≤ length (at-numbers-of2 .numbers-of2 .last .0) = omega (arith, at-numbers-of2 .numbers-of2 .kept .0, at-number-room2 .number-room2 .ensures .0, at-start .pre .2) in
     (at-start .pre .0, omega (arith, length-take-le (length (at-start .args .t .now)) (at-numbers-of .numbers-of .last .0) a, at-start .pre .1), omega (arith, length-take-le (length (at-start .args .u .now)) (at-numbers-of2 .numbers-of2 .last .0) b, at-start .pre .2))
 
 same-length-3 : tie.Need-same-length-3
 same-length-3 c = search needs
 
 returns-3 : tie.Need-returns-3
-unfolding printed
 returns-3 c =
     let at-move-and-print = c .before .before .before .before in
     let at-numbers-of2 = at-move-and-print .before .before .before .before .before in
     let at-numbers-of = at-numbers-of2 .before .before .before in
     let at-if2 = at-numbers-of .before .before .before .before in
     let at-if1 = at-if2 .before in
-    (at-move-and-print .move-and-print .ensures .0, rw (at-move-and-print .move-and-print .ensures .1, at-numbers-of .numbers-of .ensures, at-numbers-of2 .numbers-of2 .ensures, ne-eqb _ _ (at-if1 .if1 .left), le-ltb _ _ (at-if2 .if2 .left)))
+    let at-start = at-numbers-of .before .before .before .before .before .before .before .before .before in
+    let a = at-start .args in
+    let x = front _ (numbers (a .t .now)) _ (length (a .t .now)) (at-numbers-of .numbers-of .ensures) (length-map (a .t .now) (ofBits binary64)) in
+    let y = front _ (numbers (a .u .now)) _ (length (a .u .now)) (at-numbers-of2 .numbers-of2 .ensures) (length-map (a .u .now) (ofBits binary64)) in
+    (at-move-and-print .move-and-print .ensures .0, as-list _ _ _ _ _ _ (whole (a .n) (a .from) (a .to) (a .t .now) (a .u .now) _ _ (at-if1 .if1 .left) (at-if2 .if2 .left) x y) (at-move-and-print .move-and-print .ensures .1))
 
 pub run-spec : {M : Type 1} → statement M
 run-spec =

@@ -1,12 +1,12 @@
 -- `sheet_text::sheet::same` meets its contract. The invariant: the bytes passed are the same. Assumes nothing.
-use mathlib.Core.Path.{_≡_, refl, sym, ap, _∙_}
-use mathlib.Core.Bool.{true≢false}
+use mathlib.Core.Path.{_≡_, sym, ap}
 use mathlib.Core.List.{List}
-use Prim.Native.Nat.{ℕ, _+_, _-_, _≤_, _<_}
+use Prim.Native.Nat.{ℕ, _-_, _≤_, _<_}
 use native.Mathlib.Omega.{arith}
 use lib.ListN.{length, getD}
 use lib.Seq.{ext-getD}
 use borrow.Author.Count.{below-more}
+use Rattle.sheet_text.proofs.Whole.{same-itself, not-same}
 use borrow.Author.Needs.{needs}
 use Rattle.sheet_text.proofs.sheet.same.Statement.{statement}
 use Rattle.sheet_text.proofs.sheet.same.Tie as tie
@@ -20,7 +20,7 @@ abbrev μ-loop : tie.MeasureT-loop
 returns : tie.Need-returns Inv-loop μ-loop
 returns c =
     let at-if1 = c in
-    (λ h. absurd (true≢false (sym h)), λ h. absurd (at-if1 .if1 .taken (ap length h)))
+    not-same _ _ (λ h. at-if1 .if1 .taken (ap length h))
 
 loop-holds : tie.Need-loop-holds Inv-loop μ-loop
 loop-holds c = (omega arith, search needs, λ k h. absurd (omega arith))
@@ -35,7 +35,7 @@ returns-2 : tie.Need-returns-2 Inv-loop μ-loop
 returns-2 c =
     let at-if2 = c in
     let at-loop = at-if2 .before .before .before .before in
-    (λ h. absurd (true≢false (sym h)), λ h. absurd (at-if2 .if2 .taken (ap (λ (l : List ℕ). getD l (at-loop .loop .i) 0) h)))
+    not-same _ _ (λ h. at-if2 .if2 .taken (ap (λ (l : List ℕ). getD l (at-loop .loop .i) 0) h))
 
 add-i : tie.Need-add-i Inv-loop μ-loop
 add-i c = search needs
@@ -54,7 +54,9 @@ returns-3 : tie.Need-returns-3 Inv-loop μ-loop
 returns-3 c =
     let at-loop-test = c in
     let at-loop = at-loop-test .before in
-    (λ h. ext-getD 0 _ _ (at-loop .loop .inv .1) (λ k l. at-loop .loop .inv .2 k (omega (arith, at-loop-test .loop-test .left))), λ h. refl)
+    let a = at-loop .before .before .args in
+    let e : a .a .now ≡ a .b .now = ext-getD 0 _ _ (at-loop .loop .inv .1) (λ k l. at-loop .loop .inv .2 k (omega (arith, at-loop-test .loop-test .left))) in
+    rw (← e) (sym (same-itself (a .a .now)))
 
 pub same-spec : {M : Type 1} → statement M
 same-spec =

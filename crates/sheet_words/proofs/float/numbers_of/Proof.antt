@@ -1,87 +1,36 @@
--- `sheet_words::float::numbers_of` meets its contract. The invariant: what is done, and then the numbers of the words that are left, is the whole. Assumes nothing.
-use mathlib.Core.Path.{_≡_, refl, sym, ap, _∙_}
-use mathlib.Core.List.{List, _++_, map, append-nil}
-use Prim.Native.Nat.{ℕ, _+_, _-_, _≤_, _<_}
-use native.Mathlib.Numerals.{add-one}
-use native.Mathlib.Omega.{arith}
-use lib.ListN.{length, getD, take, drop, set, length-set, drop-of-length-le}
-use lib.Seq.{drop-cons, take-suc-set, append-snoc}
-use lib.Ieee.{Float, binary64, ofBits}
+-- `sheet_words::float::numbers_of` meets its contract. Assumes nothing.
+use mathlib.Core.Path.{sym, ap}
+use mathlib.Core.List.{List, _++_}
+use lib.ListN.{length, drop}
+use lib.Seq.{length-take-le}
+use lib.Ieee.{Float}
 use borrow.Author.Needs.{needs}
 use Rattle.sheet_words.proofs.float.numbers_of.Statement.{statement}
 use Rattle.sheet_words.proofs.float.numbers_of.Tie as tie
 
--- one number more
-next : (w : List ℕ) (out : List Float) (i : ℕ) (v : Float) → i < length w → i < length out → v ≡ ofBits binary64 (getD w i 0)
-    → take (i + 1) (set out i v) ++ map (ofBits binary64) (drop (i + 1) w) ≡ take i out ++ map (ofBits binary64) (drop i w)
-next w out i v h g e = rw (add-one i, take-suc-set out i v g, drop-cons w i 0 h, append-snoc, e)
+slice-relend-prefix-floats-of : tie.Need-slice-relend-prefix-floats-of
+slice-relend-prefix-floats-of c = search needs
 
-done : (w : List ℕ) (out : List Float) (i : ℕ) → length w ≤ i → i ≤ length w → take i out ++ map (ofBits binary64) (drop i w) ≡ take (length w) out
-done w out i h g = let e : length w ≡ i = omega arith in rw (drop-of-length-le w h, append-nil, e)
+slice-aggregate-floats-of : tie.Need-slice-aggregate-floats-of
+slice-aggregate-floats-of c = sym (length-take-le _ _ (search needs))
 
-abbrev Inv-loop : tie.InvT-loop
-Inv-loop out₀ w i₀ out i =
-    (i ≤ length w) × (length out ≡ length out₀) × (take i out ++ map (ofBits binary64) (drop i w) ≡ map (ofBits binary64) w)
+floats-of-requires : tie.Need-floats-of-requires
+floats-of-requires c κs = sym (length-take-le _ _ (search needs))
 
-abbrev μ-loop : tie.MeasureT-loop
-μ-loop out₀ w i₀ out i = length w - i
+same-length : tie.Need-same-length
+same-length c = search needs
 
-loop-holds : tie.Need-loop-holds Inv-loop μ-loop
-loop-holds c = (search needs, refl, refl)
-
-mul-number-of : tie.Need-mul-number-of Inv-loop μ-loop
-mul-number-of c = search needs
-
-shared-slice-read-number-of : tie.Need-shared-slice-read-number-of Inv-loop μ-loop
-shared-slice-read-number-of c = search needs
-
-number-of-requires : tie.Need-number-of-requires Inv-loop μ-loop
-number-of-requires c κs = search needs
-
-mul-out : tie.Need-mul-out Inv-loop μ-loop
-mul-out c = search needs
-
-slice-write-out : tie.Need-slice-write-out Inv-loop μ-loop
-slice-write-out c = search needs
-
-add-i : tie.Need-add-i Inv-loop μ-loop
-add-i c = search needs
-
-loop-less : tie.Need-loop-less Inv-loop μ-loop
-loop-less c = search needs
-
-loop-again : tie.Need-loop-again Inv-loop μ-loop
-loop-again c =
-    let at-number-of = c in
-    let at-loop-test = at-number-of .before .before in
-    let at-loop = at-loop-test .before in
-    (search needs, simp length-set (at-loop .loop .inv .1), next _ _ _ _ (at-loop-test .loop-test .taken) (search needs) (at-number-of .number-of .ensures) ∙ at-loop .loop .inv .2)
-
-same-length : tie.Need-same-length Inv-loop μ-loop
-same-length c =
-    let at-loop = c .before in
-    at-loop .loop .inv .1
-
-returns : tie.Need-returns Inv-loop μ-loop
+returns : tie.Need-returns
 returns c =
-    let at-loop-test = c in
-    let at-loop = at-loop-test .before in
-    sym (done _ _ _ (at-loop-test .loop-test .left) (at-loop .loop .inv .0)) ∙ at-loop .loop .inv .2
+    let at-start = c .before .before .before .before .before .before in
+    ap (λ (l : List Float). l ++ drop (length (at-start .args .w .now)) (at-start .args .out .now)) (c .before .before .floats-of .ensures)
 
 pub numbers-of-spec : {M : Type 1} → statement M
 numbers-of-spec =
     tie.close
     (tie.spec
-    Inv-loop
-    μ-loop
-    loop-holds
-    mul-number-of
-    shared-slice-read-number-of
-    number-of-requires
-    mul-out
-    slice-write-out
-    add-i
-    loop-less
-    loop-again
+    slice-relend-prefix-floats-of
+    slice-aggregate-floats-of
+    floats-of-requires
     same-length
     returns)

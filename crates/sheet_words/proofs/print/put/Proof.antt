@@ -1,35 +1,36 @@
--- `sheet_words::print::put` meets its contract. The invariant: what is written, and then the bytes that are left, is the whole. Assumes nothing.
-use mathlib.Core.Path.{_≡_, refl, sym, _∙_}
-use mathlib.Core.List.{List, _++_, append-nil}
-use Prim.Native.Nat.{ℕ, suc, _+_, _-_, _≤_, _<_}
-use native.Mathlib.Nat.{add-zero}
+-- `sheet_words::print::put` meets its contract. The invariant: so many bytes are copied. Assumes nothing.
+use mathlib.Core.Path.{_≡_, refl, sym, ap, _∙_}
+use mathlib.Core.List.{List}
+use Prim.Native.Nat.{ℕ, _+_, _-_, _≤_, _<_}
 use native.Mathlib.Numerals.{add-one}
 use native.Mathlib.Omega.{arith}
-use lib.ListN.{length, getD, take, drop, set, length-set, drop-of-length-le}
-use lib.Seq.{drop-cons, take-suc-set, append-snoc}
+use lib.ListN.{length, getD, set, length-set}
+use lib.Seq.{take-length, paste, paste-zero, paste-suc}
+use Rattle.sheet_words.specs.Put.{Put}
 use borrow.Author.Needs.{needs}
 use Rattle.sheet_words.proofs.print.put.Statement.{statement}
 use Rattle.sheet_words.proofs.print.put.Tie as tie
 
 -- one byte more
-next : (out text : List ℕ) (at i : ℕ) → at + i < length out → i < length text
-    → take (at + (i + 1)) (set out (at + i) (getD text i 0)) ++ drop (i + 1) text ≡ take (at + i) out ++ drop i text
-next out text at i h g =
-    let e : at + (i + 1) ≡ suc (at + i) = omega arith in
-    rw (e, add-one i, take-suc-set out (at + i) (getD text i 0) h, drop-cons text i 0 g, append-snoc)
+next : (out₀ out text : List ℕ) (at i : ℕ) → out ≡ paste out₀ at text i → at + i < length out₀ → i < length text
+    → set out (at + i) (getD text i 0) ≡ paste out₀ at text (i + 1)
+next out₀ out text at i e h g =
+    ap (λ (l : List ℕ). set l (at + i) (getD text i 0)) e
+    ∙ paste-suc out₀ at text i 0 h g
+    ∙ ap (λ (k : ℕ). paste out₀ at text k) (sym (add-one i))
 
-done : (out text : List ℕ) (at i : ℕ) → length text ≤ i → take (at + i) out ++ drop i text ≡ take (at + i) out
-done out text at i h = rw (drop-of-length-le text h, append-nil)
+done : (out₀ out text : List ℕ) (at i : ℕ) → i ≡ length text → out ≡ paste out₀ at text i → Put out₀ at text out (at + i)
+done out₀ out text at i n e =
+    (ap (λ (k : ℕ). at + k) n, e ∙ rw (n, take-length text))
 
 abbrev Inv-loop : tie.InvT-loop
-Inv-loop out₀ at text i₀ out i =
-    (i ≤ length text) × (length out ≡ length out₀) × (take (at + i) out ++ drop i text ≡ take at out₀ ++ text)
+Inv-loop out₀ at text i₀ out i = (i ≤ length text) × (length out ≡ length out₀) × (out ≡ paste out₀ at text i)
 
 abbrev μ-loop : tie.MeasureT-loop
 μ-loop out₀ at text i₀ out i = length text - i
 
 loop-holds : tie.Need-loop-holds Inv-loop μ-loop
-loop-holds c = (search needs, refl, rw add-zero)
+loop-holds c = let a = c .args in (search needs, refl, paste-zero (a .out .now) (a .at) (a .text .now))
 
 shared-slice-read-out : tie.Need-shared-slice-read-out Inv-loop μ-loop
 shared-slice-read-out c = search needs
@@ -49,7 +50,8 @@ loop-less c = search needs
 loop-again : tie.Need-loop-again Inv-loop μ-loop
 loop-again c =
     let l = c .before .before in
-    (search needs, simp length-set (l .loop .inv .1), next (l .loop .out) (l .before .args .text .now) (l .before .args .at) (l .loop .i) (search needs) (search needs) ∙ l .loop .inv .2)
+    let a = l .before .args in
+    (search needs, simp length-set (l .loop .inv .1), next (a .out .now) (l .loop .out) (a .text .now) (a .at) (l .loop .i) (l .loop .inv .2) (search needs) (search needs))
 
 add-result : tie.Need-add-result Inv-loop μ-loop
 add-result c = search needs
@@ -58,7 +60,9 @@ same-length : tie.Need-same-length Inv-loop μ-loop
 same-length c = c .before .loop .inv .1
 
 returns : tie.Need-returns Inv-loop μ-loop
-returns c = (search needs, sym (done _ _ _ _ (c .loop-test .left)) ∙ c .before .loop .inv .2)
+returns c =
+    let l = c .before in
+    done _ _ _ _ _ (omega (arith, c .loop-test .left, l .loop .inv .0)) (l .loop .inv .2)
 
 pub put-spec : {M : Type 1} → statement M
 put-spec =

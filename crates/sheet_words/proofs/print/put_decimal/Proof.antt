@@ -1,7 +1,8 @@
 -- `sheet_words::print::put_decimal` meets its contract: the digits that io writes are the fewest. Assumes nothing.
-use mathlib.Core.Path.{_≡_, refl, sym, ap, _∙_}
+use mathlib.Core.Path.{_∙_}
 use native.Mathlib.Omega.{arith}
 use Rattle.sheet_words.proofs.Numerals.{fewest, at-most-20}
+use Rattle.sheet_words.proofs.Put.{as-list}
 use borrow.Author.Needs.{needs}
 use Rattle.sheet_words.proofs.print.put_decimal.Statement.{statement}
 use Rattle.sheet_words.proofs.print.put_decimal.Tie as tie
@@ -31,7 +32,7 @@ returns c =
     let d = k .decimal in
     let m = at-most-20 (d .result) _ (k .before .before .before .fits .n .fits) (d .ensures .1 .0) in (
       omega (arith, p .put .ensures .0, d .ensures .0 .1),
-      rw (p .put .ensures .1, d .ensures .1 .1, fewest 20 _ _ (d .ensures .1 .0) m),
+      as-list _ _ _ _ _ _ (d .ensures .1 .1 ∙ fewest 20 _ _ (d .ensures .1 .0) m) (p .put .ensures),
     )
 
 pub put-decimal-spec : {M : Type 1} → statement M

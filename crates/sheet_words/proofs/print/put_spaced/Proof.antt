@@ -1,36 +1,46 @@
--- `sheet_words::print::put_spaced` meets its contract. The invariant: what is written, and then the words that are left, is the whole. Assumes nothing.
-use mathlib.Core.Path.{_≡_, refl, sym, _∙_}
-use mathlib.Core.List.{List, _++_, append-nil, append-assoc}
-use Prim.Native.Nat.{ℕ, suc, _+_, _-_, _*_, _≤_, _<_}
+-- `sheet_words::print::put_spaced` meets its contract. The invariant: so many words are put. Assumes nothing.
+use mathlib.Core.Path.{_≡_, refl, sym, ap, _∙_}
+use mathlib.Core.List.{List, [], _∷_, _++_, append-nil, append-assoc}
+use Prim.Native.Nat.{ℕ, _+_, _-_, _*_, _≤_, _<_}
 use native.Mathlib.Numerals.{add-one}
 use native.Mathlib.Omega.{arith}
-use lib.ListN.{length, getD, take, drop, set, length-set, drop-of-length-le}
-use lib.Seq.{drop-cons, take-suc-set}
+use lib.ListN.{length, getD, take, set, length-set}
+use lib.Seq.{take-suc, take-all}
 use Rattle.model.specs.Text.{word, spaced}
+use Rattle.sheet_words.specs.Put.{Put}
+use Rattle.sheet_words.proofs.Put.{as-list, put-none, put-one, put-then}
 use borrow.Author.Needs.{needs}
 use Rattle.sheet_words.proofs.print.put_spaced.Statement.{statement}
 use Rattle.sheet_words.proofs.print.put_spaced.Tie as tie
 
 -- one word more
-next : (out more w : List ℕ) (p i r : ℕ) → p < length out → i < length w → take r more ≡ take (p + 1) (set out p 32) ++ word (getD w i 0)
-    → take r more ++ spaced (drop (i + 1) w) ≡ take p out ++ spaced (drop i w)
+spaced-snoc : (ws : List ℕ) (w : ℕ) → spaced ws ++ (32 ∷ []) ++ word w ≡ spaced (ws ++ (w ∷ []))
 unfolding spaced
-next out more w p i r h g e =
-    rw (e, add-one p, add-one i, take-suc-set out p 32 h, drop-cons w i 0 g) (simp append-assoc)
+spaced-snoc [] w = sym (append-nil (32 ∷ word w))
+spaced-snoc (v ∷ ws) w = rw (← spaced-snoc ws w) (simp append-assoc)
 
-done : (out w : List ℕ) (p i : ℕ) → length w ≤ i → take p out ++ spaced (drop i w) ≡ take p out
-unfolding spaced
-done out w p i h = rw (drop-of-length-le w h, append-nil)
+more : (w : List ℕ) (i : ℕ) → i < length w → spaced (take i w) ++ (32 ∷ []) ++ word (getD w i 0) ≡ spaced (take (i + 1) w)
+more w i h = spaced-snoc (take i w) (getD w i 0) ∙ ap spaced (rw (add-one i) (sym (take-suc w i 0 h)))
+
+next : (out₀ out last w : List ℕ) (at p i r : ℕ) → length out ≡ length out₀ → p < length out₀ → i < length w
+    → Put out₀ at (spaced (take i w)) out p → Put (set out p 32) (p + 1) (word (getD w i 0)) last r
+    → Put out₀ at (spaced (take (i + 1) w)) last r
+next out₀ out last w at p i r l h g old new =
+    as-list out₀ last (spaced (take i w) ++ (32 ∷ []) ++ word (getD w i 0)) (spaced (take (i + 1) w)) at r (more w i g)
+    (put-then out₀ (set out p 32) last (spaced (take i w) ++ (32 ∷ [])) (word (getD w i 0)) at (p + 1) r
+    (put-then out₀ out (set out p 32) (spaced (take i w)) (32 ∷ []) at p (p + 1) old (put-one out p 32 (omega arith)) (omega arith))
+    new (omega arith))
 
 abbrev Inv-loop : tie.InvT-loop
 Inv-loop out₀ at w p₀ i₀ out p i =
-    (i ≤ length w) × (length out ≡ length out₀) × (p ≡ at + 17 * i) × (take p out ++ spaced (drop i w) ≡ take at out₀ ++ spaced w)
+    (i ≤ length w) × (length out ≡ length out₀) × (p ≡ at + 17 * i) × Put out₀ at (spaced (take i w)) out p
 
 abbrev μ-loop : tie.MeasureT-loop
 μ-loop out₀ at w p₀ i₀ out p i = length w - i
 
 loop-holds : tie.Need-loop-holds Inv-loop μ-loop
-loop-holds c = (search needs, refl, search needs, refl)
+unfolding spaced
+loop-holds c = (search needs, refl, search needs, put-none _ _)
 
 slice-write-out : tie.Need-slice-write-out Inv-loop μ-loop
 slice-write-out c = search needs
@@ -61,14 +71,16 @@ loop-again c =
       search needs,
       k .put-word .kept .0 ∙ simp length-set (l .loop .inv .1),
       omega (arith, k .put-word .ensures .0),
-      next (l .loop .out) (k .put-word .last .0) (a .args .w .now) (l .loop .p) (l .loop .i) (k .put-word .result) (search needs) (search needs) (k .put-word .ensures .1) ∙ l .loop .inv .3,
+      next (a .args .out .now) (l .loop .out) (k .put-word .last .0) (a .args .w .now) (a .args .at) (l .loop .p) (l .loop .i) (k .put-word .result) (l .loop .inv .1) (search needs) (search needs) (l .loop .inv .3) (k .put-word .ensures .1),
     )
 
 same-length : tie.Need-same-length Inv-loop μ-loop
 same-length c = c .before .loop .inv .1
 
 returns : tie.Need-returns Inv-loop μ-loop
-returns c = (search needs, let l = c .before in sym (done (l .loop .out) (l .before .before .before .args .w .now) (l .loop .p) (l .loop .i) (c .loop-test .left)) ∙ l .loop .inv .3)
+returns c =
+    let l = c .before in
+    (search needs, as-list _ _ _ _ _ _ (ap spaced (take-all (l .loop .i) (l .before .before .before .args .w .now) (c .loop-test .left))) (l .loop .inv .3))
 
 pub put-spaced-spec : {M : Type 1} → statement M
 put-spaced-spec =

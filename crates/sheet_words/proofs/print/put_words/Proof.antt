@@ -1,26 +1,27 @@
 -- `sheet_words::print::put_words` meets its contract: the first word, then the others, a space before each. Assumes nothing.
-use mathlib.Core.Path.{_≡_, refl, sym, ap, _∙_}
-use mathlib.Core.List.{List, [], _∷_, _++_, append-nil, append-assoc}
-use Prim.Native.Nat.{ℕ, _-_, _*_, _≤_, _<_}
+use mathlib.Core.Path.{_≡_, refl}
+use mathlib.Core.List.{List, [], _∷_, _++_}
+use Prim.Native.Nat.{ℕ, _-_, _≤_, _<_}
 use native.Mathlib.Omega.{arith}
 use lib.ListN.{length, getD, take, drop}
 use lib.Seq.{take-all}
 use Rattle.model.specs.Text.{word, spaced, words}
+use Rattle.sheet_words.proofs.Put.{as-list, put-none, put-then}
 use borrow.Author.Needs.{needs}
 use Rattle.sheet_words.proofs.print.put_words.Statement.{statement}
 use Rattle.sheet_words.proofs.print.put_words.Tie as tie
 
-none : (before w : List ℕ) → length w ≡ 0 → before ≡ before ++ words w
+none : (w : List ℕ) → length w ≡ 0 → [] ≡ words w
 unfolding words
-none before [] h = sym (append-nil before)
-none before (x ∷ w) h = absurd (omega arith)
+none [] h = refl
+none (x ∷ w) h = absurd (omega arith)
 
-first : (before w : List ℕ) → 0 < length w → before ++ word (getD w 0 0) ++ spaced (take (length w - 1) (drop 1 w)) ≡ before ++ words w
+first : (w : List ℕ) → 0 < length w → word (getD w 0 0) ++ spaced (take (length w - 1) (drop 1 w)) ≡ words w
 unfolding words
-first before [] h = absurd (omega arith)
-first before (x ∷ w) h =
+first [] h = absurd (omega arith)
+first (x ∷ w) h =
     let l : length w ≤ length (x ∷ w) - 1 = omega arith in
-    rw (take-all (length (x ∷ w) - 1) w l) (append-assoc before (word x) (spaced w))
+    rw (take-all (length (x ∷ w) - 1) w l)
 
 others : (w : List ℕ) → 0 < length w → length (take (length w - 1) (drop 1 w)) ≡ length w - 1
 others [] h = absurd (omega arith)
@@ -31,7 +32,7 @@ others (x ∷ w) h =
 returns : tie.Need-returns
 returns c =
     let at-if1 = c in
-    (search needs, none _ _ (at-if1 .if1 .taken))
+    (search needs, as-list _ _ _ _ _ _ (none _ (at-if1 .if1 .taken)) (put-none _ _))
 
 shared-slice-read-put-word : tie.Need-shared-slice-read-put-word
 shared-slice-read-put-word c = search needs
@@ -60,7 +61,7 @@ returns-2 c =
     let at-put-word = at-put-spaced .before .before .before .before .before in
     let at-if1 = at-put-word .before .before .before in
     let at-start = at-if1 .before .before .before in
-    (omega (arith, at-put-spaced .put-spaced .ensures .0, at-put-word .put-word .ensures .0, others (at-start .args .w .now) (omega (arith, at-if1 .if1 .left)), at-if1 .if1 .left), rw (at-put-spaced .put-spaced .ensures .1, at-put-word .put-word .ensures .1) (first (take (at-start .args .at) (at-start .args .out .now)) (at-start .args .w .now) (omega (arith, at-if1 .if1 .left))))
+    (omega (arith, at-put-spaced .put-spaced .ensures .0, at-put-word .put-word .ensures .0, others (at-start .args .w .now) (omega (arith, at-if1 .if1 .left)), at-if1 .if1 .left), as-list _ _ _ _ _ _ (first (at-start .args .w .now) (omega (arith, at-if1 .if1 .left))) (put-then _ _ _ _ _ _ _ _ (at-put-word .put-word .ensures .1) (at-put-spaced .put-spaced .ensures .1) (search needs)))
 
 pub put-words-spec : {M : Type 1} → statement M
 put-words-spec =

@@ -1,7 +1,7 @@
 -- `sheet_words::read::digit` meets its contract, test by test. Assumes nothing.
 use native.Mathlib.Omega.{arith}
 use borrow.Author.Tests.{lt-ltb, le-ltb, le-leb, lt-leb}
-use Rattle.sheet_words.specs.Read.{digitOf}
+use Rattle.model.specs.Text.{digitOf}
 use borrow.Author.Needs.{needs}
 use Rattle.sheet_words.proofs.read.digit.Statement.{statement}
 use Rattle.sheet_words.proofs.read.digit.Tie as tie

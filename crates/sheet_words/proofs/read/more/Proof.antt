@@ -1,6 +1,6 @@
 -- `sheet_words::read::more` meets its contract, test by test. Assumes nothing.
 use borrow.Author.Tests.{lt-ltb, le-ltb, eq-eqb, ne-eqb}
-use Rattle.sheet_words.specs.Read.{moreAt}
+use Rattle.model.specs.Text.{moreAt}
 use borrow.Author.Needs.{needs}
 use Rattle.sheet_words.proofs.read.more.Statement.{statement}
 use Rattle.sheet_words.proofs.read.more.Tie as tie

@@ -1,5 +1,5 @@
 -- `sheet_words::read::number` meets its contract. The invariant: the digits that are left, after the number so far, give the whole number. Assumes nothing.
-use mathlib.Core.Path.{_≡_, refl, sym, _∙_}
+use mathlib.Core.Path.{_≡_, sym, _∙_}
 use mathlib.Core.List.{List}
 use Prim.Native.Nat.{ℕ, suc, _+_, _-_, _*_, _^_, _≤_, _<_}
 use native.Mathlib.Nat.{add-zero, add-assoc, lt-of-lt-of-le, pow-le-pow-right}
@@ -7,8 +7,7 @@ use native.Mathlib.Numerals.{add-one}
 use native.Mathlib.Omega.{arith}
 use lib.ListN.{length, getD, List·getD-eq-default}
 use borrow.Author.Tests.{lt-ltb, le-ltb}
-use Rattle.sheet_words.specs.Read.{numberAt}
-use Rattle.sheet_words.specs.declared.read.Taken.{Taken}
+use Rattle.model.specs.Text.{numberAt}
 use borrow.Author.Needs.{needs}
 use Rattle.sheet_words.proofs.read.number.Statement.{statement}
 use Rattle.sheet_words.proofs.read.number.Tie as tie

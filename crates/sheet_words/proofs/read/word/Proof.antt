@@ -1,12 +1,12 @@
 -- `sheet_words::read::word` meets its contract. The invariant: the digits that are left, after the word so far, give the whole word. Assumes nothing.
-use mathlib.Core.Path.{_≡_, refl, sym, _∙_}
+use mathlib.Core.Path.{_≡_, sym, _∙_}
 use mathlib.Core.List.{List}
 use Prim.Native.Nat.{ℕ, suc, _+_, _-_, _*_, _^_, _≤_, _<_}
-use native.Mathlib.Nat.{add-zero, add-assoc, lt-of-lt-of-le}
+use native.Mathlib.Nat.{add-zero, lt-of-lt-of-le}
 use native.Mathlib.Omega.{arith}
 use lib.Pow.{pow-add, pow-mono}
 use lib.ListN.{getD}
-use Rattle.sheet_words.specs.Read.{digitOf, digitsFrom}
+use Rattle.model.specs.Text.{digitOf, digitsFrom}
 use borrow.Author.Needs.{needs}
 use Rattle.sheet_words.proofs.read.word.Statement.{statement}
 use Rattle.sheet_words.proofs.read.word.Tie as tie

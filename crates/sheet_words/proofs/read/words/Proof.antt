@@ -1,16 +1,17 @@
--- `sheet_words::read::words` meets its contract. The invariant: the words that are read, and then those that are left, are the whole. Assumes nothing.
+-- `sheet_words::read::words` meets its contract. The invariant: the words that are read, and then those that are left, are the whole; what stands after stays. Assumes nothing.
 use mathlib.Core.Path.{_≡_, refl, sym, _∙_}
 use mathlib.Core.Bool.{true, false}
-use mathlib.Core.List.{List, [], _∷_, _++_, append-nil}
+use mathlib.Core.List.{List, _++_, append-nil}
 use Prim.Native.Nat.{ℕ, suc, _+_, _-_, _*_, _≤_, _<_}
 use native.Mathlib.Nat.{sub-zero}
 use native.Mathlib.Numerals.{add-one}
 use native.Mathlib.Omega.{arith}
-use lib.ListN.{length, take, set, length-set}
+use lib.ListN.{length, take, drop, set, length-set}
 use lib.Seq.{take-suc-set, append-snoc}
-use borrow.Author.Tests.{ltb-false, not-true, not-false}
-use Rattle.sheet_words.specs.Read.{digitsFrom, moreAt, wordsAt}
+use borrow.Author.Tests.{not-true, not-false}
+use Rattle.model.specs.Text.{digitsFrom, moreAt, wordsAt}
 use Rattle.sheet_words.proofs.Reading.{more-fits}
+use Rattle.sheet_words.proofs.Put.{rest-stays, put-start}
 use borrow.Author.Needs.{needs}
 use Rattle.sheet_words.proofs.read.words.Statement.{statement}
 use Rattle.sheet_words.proofs.read.words.Tie as tie
@@ -35,13 +36,13 @@ none s out m n p h = let e : m - n ≡ 0 = omega arith in rw (e, append-nil)
 abbrev Inv-loop : tie.InvT-loop
 Inv-loop out₀ s at n₀ p₀ out n p =
     (n ≤ length out₀) × (length out ≡ length out₀) × (p ≡ at + 17 * n)
-    × (take n out ++ wordsAt s (length out₀ - n) p ≡ wordsAt s (length out₀) at)
+    × (take n out ++ wordsAt s (length out₀ - n) p ≡ wordsAt s (length out₀) at) × (drop n out ≡ drop n out₀)
 
 abbrev μ-loop : tie.MeasureT-loop
 μ-loop out₀ s at n₀ p₀ out n p = length out₀ - n
 
 loop-holds : tie.Need-loop-holds Inv-loop μ-loop
-loop-holds c = (omega arith, refl, omega arith, rw sub-zero)
+loop-holds c = (omega arith, refl, omega arith, rw sub-zero, refl)
 
 more-requires : tie.Need-more-requires Inv-loop μ-loop
 more-requires c κs = search needs
@@ -58,7 +59,7 @@ returns c =
     let at-loop-test = at-more .before in
     let at-loop = at-loop-test .before in
     let at-start = at-loop .before .before .before in
-    (search needs, sym (stop (at-start .args .s .now) (at-loop .loop .out) (length (at-start .args .out .now)) (at-loop .loop .n) (at-loop .loop .p) (omega (arith, at-loop-test .loop-test .taken, at-loop .loop .inv .1)) (sym (at-more .more .ensures) ∙ not-true _ (at-if1 .if1 .taken))) ∙ at-loop .loop .inv .3)
+    (search needs, put-start _ _ _ _ (search needs) (sym (stop (at-start .args .s .now) (at-loop .loop .out) (length (at-start .args .out .now)) (at-loop .loop .n) (at-loop .loop .p) (omega (arith, at-loop-test .loop-test .taken, at-loop .loop .inv .1)) (sym (at-more .more .ensures) ∙ not-true _ (at-if1 .if1 .taken))) ∙ at-loop .loop .inv .3) (at-loop .loop .inv .4))
 
 add-word : tie.Need-add-word Inv-loop μ-loop
 add-word c = search needs
@@ -92,7 +93,7 @@ loop-again c =
     let at-loop-test = at-more .before in
     let at-loop = at-loop-test .before in
     let at-start = at-loop .before .before .before in
-    (search needs, simp length-set (at-loop .loop .inv .1), search needs, next (at-start .args .s .now) (at-loop .loop .out) (length (at-start .args .out .now)) (at-loop .loop .n) (at-loop .loop .p) (omega (arith, at-loop-test .loop-test .taken, at-loop .loop .inv .1)) (at-word .word .result) (at-loop-test .loop-test .taken) (sym (at-more .more .ensures) ∙ not-false _ (at-if1 .if1 .left)) (at-word .word .ensures) ∙ at-loop .loop .inv .3)
+    (search needs, simp length-set (at-loop .loop .inv .1), search needs, next (at-start .args .s .now) (at-loop .loop .out) (length (at-start .args .out .now)) (at-loop .loop .n) (at-loop .loop .p) (omega (arith, at-loop-test .loop-test .taken, at-loop .loop .inv .1)) (at-word .word .result) (at-loop-test .loop-test .taken) (sym (at-more .more .ensures) ∙ not-false _ (at-if1 .if1 .left)) (at-word .word .ensures) ∙ at-loop .loop .inv .3, rest-stays (at-start .args .out .now) (at-loop .loop .out) (at-loop .loop .n) (at-word .word .result) (at-loop .loop .inv .4))
 
 same-length-2 : tie.Need-same-length-2 Inv-loop μ-loop
 same-length-2 c =
@@ -104,7 +105,7 @@ returns-2 c =
     let at-loop-test = c in
     let at-loop = at-loop-test .before in
     let at-start = at-loop .before .before .before in
-    (search needs, sym (none (at-start .args .s .now) (at-loop .loop .out) (length (at-start .args .out .now)) (at-loop .loop .n) (at-loop .loop .p) (omega (arith, at-loop-test .loop-test .left, at-loop .loop .inv .1))) ∙ at-loop .loop .inv .3)
+    (search needs, put-start _ _ _ _ (search needs) (sym (none (at-start .args .s .now) (at-loop .loop .out) (length (at-start .args .out .now)) (at-loop .loop .n) (at-loop .loop .p) (omega (arith, at-loop-test .loop-test .left, at-loop .loop .inv .1))) ∙ at-loop .loop .inv .3) (at-loop .loop .inv .4))
 
 pub words-spec : {M : Type 1} → statement M
 words-spec =
