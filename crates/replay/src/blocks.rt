@@ -3,7 +3,7 @@ ghost use mathlib.Core.Path.{_≡_};
 ghost use lib.ListN.{length};
 ghost use Rattle.schur22.specs.View.{block, values};
 ghost use Rattle.replay.specs.Lines as Lines;
-use replay_text::float::float_of;
+use bits::float::float_of;
 use replay_text::float::is_word;
 use replay_text::outcome::Outcome;
 use replay_text::outcome::judge;

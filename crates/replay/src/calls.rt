@@ -2,10 +2,10 @@
 // given ones and compares what it gives with the rest. oracle/README.md lists the words.
 ghost use mathlib.Core.Path.{_≡_};
 ghost use Rattle.replay.specs.Lines as Lines;
+use bits::float::float_of;
+use bits::float::floats_of;
 use linalg::jacobi::JacobiRotation;
 use replay_text::float::are_words;
-use replay_text::float::float_of;
-use replay_text::float::floats_of;
 use replay_text::float::is_word;
 use replay_text::outcome::Outcome;
 use replay_text::outcome::judge;

@@ -4,8 +4,8 @@ ghost use Prim.Native.Nat.{_+_, _≤_};
 ghost use lib.ListN.{length};
 ghost use Rattle.replay_text.specs.Shown.{from};
 ghost use Rattle.replay_forms.specs.Lines as Lines;
+use bits::float::floats_of;
 use replay_text::float::are_words;
-use replay_text::float::floats_of;
 
 // Room for a form of 65 rows, one more than a call takes.
 pub fn room() -> [f64; 4225]

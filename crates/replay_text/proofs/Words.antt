@@ -1,32 +1,13 @@
--- NaNs and their patterns, and what `isWord` says. Assumes nothing.
+-- `isWord` holds exactly where x is the number of the word. Assumes nothing.
 use mathlib.Core.Path.{_≡_, refl, sym, ap, _∙_}
-use Prim.Native.Nat.{ℕ, _*_, _<_, _^_}
+use Prim.Native.Nat.{ℕ, _<_, _^_}
 use mathlib.Core.Bool.{Bool, true, false, not, _&&_, true≢false}
-use lib.Dec.{T, eqb, eqb-refl}
-use lib.Ieee.{Float, nan, inf, fin, binary64, up, down, fits, ne, isNan, ofBits, toBits, nanBits}
-use lib.Ieee.Bits.{is-true, nanBits-is, ofBits-toBits, toBits-ofBits}
+use lib.Dec.{T, eqb}
+use lib.Ieee.{Float, binary64, fits, isNan, ofBits, toBits, nanBits}
+use lib.Ieee.Bits.{nanBits-is, ofBits-toBits, toBits-ofBits}
 use borrow.Author.Tests.{eqb-true, eq-eqb}
+use Rattle.bits.proofs.Nan.{nan-is, word-nan}
 use Rattle.replay_text.specs.Float.{isWord}
-
-nan-is : (x : Float) → isNan x ≡ true → x ≡ nan
-unfolding isNan
-nan-is nan h = refl
-nan-is (inf s) h = absurd (true≢false (sym h))
-nan-is (fin s m d) h = absurd (true≢false (sym h))
-
-pub word-nan : (w : ℕ) → nanBits binary64 w ≡ true → ofBits binary64 w ≡ nan
-word-nan w h = nan-is _ (sym (nanBits-is binary64 w) ∙ h)
-
--- x differs from itself where it is a NaN
-pub itself : (x : Float) → ne x x ≡ isNan x
-unfolding ne isNan
-itself nan = refl
-itself (inf true) = refl
-itself (inf false) = refl
-itself (fin true m e) = rw (is-true (eqb (m * up e * down e) (m * up e * down e)) (eqb-refl (m * up e * down e)))
-itself (fin false m e) = rw (is-true (eqb (m * up e * down e) (m * up e * down e)) (eqb-refl (m * up e * down e)))
-
--- ---- isWord holds exactly where x is the number of the word
 
 same-word : (x : Float) (w : ℕ) → T (fits binary64 x) → eqb (toBits binary64 x) w ≡ true → x ≡ ofBits binary64 w
 same-word x w g h = sym (ofBits-toBits binary64 x g) ∙ ap (ofBits binary64) (eqb-true _ _ h)

@@ -12,7 +12,7 @@ use Rattle.model.specs.Ascii.{ascii}
 use Rattle.model.specs.Text.{Request, textOf, InBounds, words, wordOf, wordsOf, numbers, Sheet, laidOut, notLaidOut, printed, decimal}
 use Rattle.sheet_words.specs.Read.{requestIn}
 use Rattle.sheet_text.specs.Laws.{OneRequest, Settled, AllFit, sentBack, RoundTrip}
-use Rattle.sheet_words.proofs.Nan.{nan-is}
+use Rattle.bits.proofs.Nan.{nan-is}
 use Rattle.sheet_words.proofs.Reading.{Words64, words-length, decimal-length}
 use Rattle.sheet_words.proofs.Back.{back, nested, from-n}
 

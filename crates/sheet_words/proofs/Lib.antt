@@ -1,4 +1,3 @@
 pub mod Numerals
 pub mod Reading
 pub mod Back
-pub mod Nan

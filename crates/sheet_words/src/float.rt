@@ -1,27 +1,9 @@
 // Words as numbers and back: an f64 by its bits, every NaN as one.
 ghost use mathlib.Core.Path.{_≡_};
-ghost use mathlib.Core.List.{map};
 ghost use Prim.Native.Nat.{_≤_};
 ghost use lib.ListN.{length, take};
-ghost use lib.Ieee.{binary64, ofBits, nanBits};
 ghost use Rattle.model.specs.Text as Text;
-
-// Whether w is a NaN's pattern.
-fn is_nan(w: u64) -> bool
-    ensures { λ r. ⌜ r ≡ nanBits binary64 w ⌝ }
-{
-    w % 0x8000_0000_0000_0000 > 0x7ff0_0000_0000_0000
-}
-
-// The number of the bits w. A NaN's pattern of any payload is the one NaN.
-fn number_of(w: u64) -> f64
-    ensures { λ r. ⌜ r ≡ ofBits binary64 w ⌝ }
-{
-    if is_nan(w) {
-        return 0.0 / 0.0;
-    }
-    f64::from_bits(w)
-}
+use bits::float::float_of;
 
 // The bits of a number, and of a NaN always the same.
 fn word_of(x: f64) -> u64
@@ -40,7 +22,7 @@ pub fn numbers_of(out: &mut [f64], w: &[u64])
 {
     let mut i = 0;
     while i < w.len() {
-        out[i] = number_of(w[i]);
+        out[i] = float_of(w[i]);
         i += 1;
     }
 }

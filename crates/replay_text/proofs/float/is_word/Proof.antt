@@ -1,6 +1,6 @@
 -- `replay_text::float::is_word` meets its contract. Assumes nothing.
 use Rattle.replay_text.specs.Float.{isWord}
-use Rattle.replay_text.proofs.Words.{itself}
+use Rattle.bits.proofs.Nan.{itself}
 use borrow.Author.Needs.{needs}
 use Rattle.replay_text.proofs.float.is_word.Statement.{statement}
 use Rattle.replay_text.proofs.float.is_word.Tie as tie

@@ -29,14 +29,14 @@ abbrev μ-loop : tie.MeasureT-loop
 loop-holds : tie.Need-loop-holds Inv-loop μ-loop
 loop-holds c = (search needs, refl, refl)
 
-mul-number-of : tie.Need-mul-number-of Inv-loop μ-loop
-mul-number-of c = search needs
+mul-float-of : tie.Need-mul-float-of Inv-loop μ-loop
+mul-float-of c = search needs
 
-shared-slice-read-number-of : tie.Need-shared-slice-read-number-of Inv-loop μ-loop
-shared-slice-read-number-of c = search needs
+shared-slice-read-float-of : tie.Need-shared-slice-read-float-of Inv-loop μ-loop
+shared-slice-read-float-of c = search needs
 
-number-of-requires : tie.Need-number-of-requires Inv-loop μ-loop
-number-of-requires c κs = search needs
+float-of-requires : tie.Need-float-of-requires Inv-loop μ-loop
+float-of-requires c κs = search needs
 
 mul-out : tie.Need-mul-out Inv-loop μ-loop
 mul-out c = search needs
@@ -52,10 +52,10 @@ loop-less c = search needs
 
 loop-again : tie.Need-loop-again Inv-loop μ-loop
 loop-again c =
-    let at-number-of = c in
-    let at-loop-test = at-number-of .before .before in
+    let at-float-of = c in
+    let at-loop-test = at-float-of .before .before in
     let at-loop = at-loop-test .before in
-    (search needs, simp length-set (at-loop .loop .inv .1), next _ _ _ _ (at-loop-test .loop-test .taken) (search needs) (at-number-of .number-of .ensures) ∙ at-loop .loop .inv .2)
+    (search needs, simp length-set (at-loop .loop .inv .1), next _ _ _ _ (at-loop-test .loop-test .taken) (search needs) (at-float-of .float-of .ensures) ∙ at-loop .loop .inv .2)
 
 same-length : tie.Need-same-length Inv-loop μ-loop
 same-length c =
@@ -75,9 +75,9 @@ numbers-of-spec =
     Inv-loop
     μ-loop
     loop-holds
-    mul-number-of
-    shared-slice-read-number-of
-    number-of-requires
+    mul-float-of
+    shared-slice-read-float-of
+    float-of-requires
     mul-out
     slice-write-out
     add-i

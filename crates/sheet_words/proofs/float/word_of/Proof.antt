@@ -1,7 +1,7 @@
 -- `sheet_words::float::word_of` meets its contract. Assumes nothing.
 use mathlib.Core.Path.{sym, _∙_}
 use Rattle.model.specs.Text.{wordOf}
-use Rattle.sheet_words.proofs.Nan.{itself}
+use Rattle.bits.proofs.Nan.{itself}
 use borrow.Author.Needs.{needs}
 use Rattle.sheet_words.proofs.float.word_of.Statement.{statement}
 use Rattle.sheet_words.proofs.float.word_of.Tie as tie

@@ -1,10 +1,9 @@
--- `sheet_words::float::is_nan` meets its contract. Assumes nothing.
+-- `bits::float::is_nan` meets its contract. Assumes nothing.
 use mathlib.Core.Path.{sym}
 use lib.Ieee.{binary64}
 use lib.Ieee.Bits.{nanBits-above}
-use borrow.Author.Needs.{needs}
-use Rattle.sheet_words.proofs.float.is_nan.Statement.{statement}
-use Rattle.sheet_words.proofs.float.is_nan.Tie as tie
+use Rattle.bits.proofs.float.is_nan.Statement.{statement}
+use Rattle.bits.proofs.float.is_nan.Tie as tie
 
 returns : tie.Need-returns
 returns c = sym (nanBits-above binary64 (c .args .w))

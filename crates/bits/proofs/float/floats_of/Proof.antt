@@ -1,4 +1,4 @@
--- `replay_text::float::floats_of` meets its contract. The invariant: what is done, and then the numbers of the words that are left, is the whole. Assumes nothing.
+-- `bits::float::floats_of` meets its contract. The invariant: what is done, and then the numbers of the words that are left, is the whole. Assumes nothing.
 use mathlib.Core.Path.{_≡_, refl, sym, _∙_}
 use mathlib.Core.List.{List, _++_, map, append-nil}
 use Prim.Native.Nat.{ℕ, _+_, _-_, _≤_, _<_}
@@ -8,8 +8,8 @@ use lib.ListN.{length, getD, take, drop, set, length-set, drop-of-length-le}
 use lib.Seq.{drop-cons, take-suc-set, take-all, append-snoc}
 use lib.Ieee.{Float, binary64, ofBits}
 use borrow.Author.Needs.{needs}
-use Rattle.replay_text.proofs.float.floats_of.Statement.{statement}
-use Rattle.replay_text.proofs.float.floats_of.Tie as tie
+use Rattle.bits.proofs.float.floats_of.Statement.{statement}
+use Rattle.bits.proofs.float.floats_of.Tie as tie
 
 -- one number more
 next : (w : List ℕ) (out : List Float) (i : ℕ) (v : Float) → i < length w → i < length out → v ≡ ofBits binary64 (getD w i 0)

@@ -1,10 +1,10 @@
--- `replay_text::float::float_of` meets its contract. Assumes nothing.
+-- `bits::float::float_of` meets its contract. Assumes nothing.
 use mathlib.Core.Path.{sym, _∙_}
 use lib.Ieee.{div, ofBits}
-use Rattle.replay_text.proofs.Words.{word-nan}
+use Rattle.bits.proofs.Nan.{word-nan}
 use borrow.Author.Needs.{needs}
-use Rattle.replay_text.proofs.float.float_of.Statement.{statement}
-use Rattle.replay_text.proofs.float.float_of.Tie as tie
+use Rattle.bits.proofs.float.float_of.Statement.{statement}
+use Rattle.bits.proofs.float.float_of.Tie as tie
 
 is-nan-requires : tie.Need-is-nan-requires
 is-nan-requires c κs = search needs
