@@ -1,5 +1,6 @@
 // One line: its name is looked up, its words are read, the call is made, and the outcome counted.
 ghost use mathlib.Core.Path.{_≡_};
+ghost use Prim.Native.Nat.{_+_, _^_, _<_};
 ghost use Rattle.replay.specs.Replayed as Replayed;
 use crate::table;
 use libc::STDOUT_FILENO;

@@ -43,9 +43,9 @@ fn take_byte(
         if len < line.len() {
             let told = line::replay(&line[..len], words, runs, differ);
             line::tell(&line[..told]);
-        } else {
-            refuse(runs);
+            return 0;
         }
+        refuse(runs);
         return 0;
     }
     if len < line.len() {

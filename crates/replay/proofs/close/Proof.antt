@@ -1,21 +1,20 @@
+-- `replay::close` meets its contract. Assumes nothing.
+use borrow.Author.Tests.{lt-ltb, le-ltb}
+use Rattle.replay.specs.Replayed.{closed}
 use borrow.Author.Needs.{needs}
 use Rattle.replay.proofs.close.Statement.{statement}
 use Rattle.replay.proofs.close.Tie as tie
-use Rattle.replay.proofs.close.Reads as reads
-use Rattle.replay.proofs.close.Lts as lts
-use Rattle.replay.proofs.line.refuse.Reads as refuse-reads
 
--- src/main.rt:110:9
 refuse-requires : tie.Need-refuse-requires
 refuse-requires c κs = search needs
 
--- src/main.rt:106:1
 returns : tie.Need-returns
-returns c = ?
+unfolding closed
+returns c = rw (c .refuse .ensures, lt-ltb 0 _ (c .before .before .if1 .taken))
 
--- src/main.rt:106:1
 returns-2 : tie.Need-returns-2
-returns-2 c = ?
+unfolding closed
+returns-2 c = rw (le-ltb 0 _ (c .if1 .left))
 
 pub close-spec : {M : Type 1} → statement M
 close-spec = tie.close (tie.spec refuse-requires returns returns-2)
