@@ -14,14 +14,14 @@ use replay_text::name::ROWS;
 
 // Room for a line with two forms and two factors of 64 rows.
 fn line_buffer() -> [u8; 300000]
-    ensures { λ r. ⌜ 300000 ≡ length r ⌝ }
+    ensures { λ r. ⌜ (r ≡ replicate 300000 0) × (300000 ≡ length r) ⌝ }
 {
     [0; 300000]
 }
 
 // Room for its words.
 fn word_buffer() -> [u64; 17000]
-    ensures { λ r. ⌜ 17000 ≡ length r ⌝ }
+    ensures { λ r. ⌜ (r ≡ replicate 17000 0) × (17000 ≡ length r) ⌝ }
 {
     [0; 17000]
 }
