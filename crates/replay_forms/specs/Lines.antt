@@ -25,11 +25,14 @@ are w i k x = areWords x (take k (drop i w))
 unfoldable pub fits : ℕ → ℕ → ℕ → ℕ → ℕ → Bool
 fits words rest once a b = leb once 4225 && leb a 4225 && leb b 4225 && eqb words (rest + once + 2 * (a + b))
 
--- a move with a form of a numbers and a factor of b gives what is expected
+-- the move of a line, with a form of a numbers and a factor of b
+abbrev pub moveIn : List ℕ → ℕ → ℕ → Move.Moved
+moveIn w a b = let n = getD w 2 0 in Move.moveCall binary64 n n (from w 5 a) (from w (5 + a) b) (getD w 3 0) (getD w 4 0)
+
+-- it gives what is expected
 unfoldable pub sameMove : List ℕ → ℕ → ℕ → Bool
 sameMove w a b =
-    let n = getD w 2 0 in
-    let r = Move.moveCall binary64 n n (from w 5 a) (from w (5 + a) b) (getD w 3 0) (getD w 4 0) in
+    let r = moveIn w a b in
     let e = 5 + a + b in
     is w e (r .answer) && is w (e + 1) (r .landed) && is w (e + 2) (r .swaps) && is w (e + 3) (r .declined)
     && are w (e + 4) a (r .form) && are w (e + 4 + a) b (r .factor)
@@ -38,10 +41,13 @@ abbrev pub reorderSchur : List ℕ → Outcome
 reorderSchur w = let a = getD w 0 0 in let b = getD w 1 0 in judged (fits (length w) 9 0 a b) (sameMove w a b)
 
 -- an exchange, likewise
+abbrev pub exchangeIn : List ℕ → ℕ → ℕ → Exchange.Exchanged
+exchangeIn w a b =
+    let n = getD w 2 0 in Exchange.exchangeCall binary64 n n (from w 6 a) (from w (6 + a) b) (getD w 3 0) (getD w 4 0) (getD w 5 0)
+
 unfoldable pub sameExchange : List ℕ → ℕ → ℕ → Bool
 sameExchange w a b =
-    let n = getD w 2 0 in
-    let r = Exchange.exchangeCall binary64 n n (from w 6 a) (from w (6 + a) b) (getD w 3 0) (getD w 4 0) (getD w 5 0) in
+    let r = exchangeIn w a b in
     let e = 6 + a + b in
     is w e (r .answer) && is w (e + 1) (r .swaps) && is w (e + 2) (r .declined)
     && are w (e + 3) a (r .form) && are w (e + 3 + a) b (r .factor)
@@ -50,10 +56,12 @@ abbrev pub schurSwap : List ℕ → Outcome
 schurSwap w = let a = getD w 0 0 in let b = getD w 1 0 in judged (fits (length w) 9 0 a b) (sameExchange w a b)
 
 -- a form of a numbers and b lent for its vectors
+abbrev pub vectorsIn : List ℕ → ℕ → ℕ → Vectors.Vectors
+vectorsIn w a b = let n = getD w 2 0 in Vectors.evdFromRealSchur binary64 n n (from w 3 a) (from w (3 + a) b)
+
 unfoldable pub sameVectors : List ℕ → ℕ → ℕ → Bool
 sameVectors w a b =
-    let n = getD w 2 0 in
-    let r = Vectors.evdFromRealSchur binary64 n n (from w 3 a) (from w (3 + a) b) in
+    let r = vectorsIn w a b in
     let e = 3 + a + b in
     is w e (r .answer) && are w (e + 1) b (r .v)
 
@@ -61,10 +69,13 @@ abbrev pub evdFromRealSchur : List ℕ → Outcome
 evdFromRealSchur w = let a = getD w 0 0 in let b = getD w 1 0 in judged (fits (length w) 4 a b 0) (sameVectors w a b)
 
 -- a form of a numbers, and b and k lent for the parts of its values
+abbrev pub valuesIn : List ℕ → ℕ → ℕ → ℕ → Values.Values
+valuesIn w a b k =
+    let n = getD w 3 0 in Values.blockValues binary64 n n (from w 4 a) (record { re = from w (4 + a) b; im = from w (4 + a + b) k })
+
 unfoldable pub sameValues : List ℕ → ℕ → ℕ → ℕ → Bool
 sameValues w a b k =
-    let n = getD w 3 0 in
-    let r = Values.blockValues binary64 n n (from w 4 a) (record { re = from w (4 + a) b; im = from w (4 + a + b) k }) in
+    let r = valuesIn w a b k in
     let e = 4 + a + b + k in
     is w e (r .answer) && are w (e + 1) b (r .parts .re) && are w (e + 1 + b) k (r .parts .im)
 

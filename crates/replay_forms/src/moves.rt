@@ -14,7 +14,9 @@ use replay_text::outcome::judge;
 // The move of a line, in a form and a factor of the right lengths.
 fn same_move(w: &[u64], t: &mut [f64], u: &mut [f64]) -> bool
     requires { ⌜ (length (now t) ≤ 4225) × (length (now u) ≤ 4225) × (length (now w) ≡ 9 + 2 * (length (now t) + length (now u))) ⌝ }
-    ensures { λ r. ⌜ r ≡ Lines.sameMove (now (w .entry)) (length (now (t .entry))) (length (now (u .entry))) ⌝ }
+    ensures { λ r. ⌜ (r ≡ Lines.sameMove (now (w .entry)) (length (now (t .entry))) (length (now (u .entry))))
+        × (now (t .exit) ≡ Lines.moveIn (now (w .entry)) (length (now (t .entry))) (length (now (u .entry))) .form)
+        × (now (u .exit) ≡ Lines.moveIn (now (w .entry)) (length (now (t .entry))) (length (now (u .entry))) .factor) ⌝ }
 {
     let a = t.len();
     let b = u.len();
@@ -54,7 +56,9 @@ pub fn reorder_schur(w: &[u64]) -> Outcome
 // The exchange of a line, in a form and a factor of the right lengths.
 fn same_exchange(w: &[u64], t: &mut [f64], u: &mut [f64]) -> bool
     requires { ⌜ (length (now t) ≤ 4225) × (length (now u) ≤ 4225) × (length (now w) ≡ 9 + 2 * (length (now t) + length (now u))) ⌝ }
-    ensures { λ r. ⌜ r ≡ Lines.sameExchange (now (w .entry)) (length (now (t .entry))) (length (now (u .entry))) ⌝ }
+    ensures { λ r. ⌜ (r ≡ Lines.sameExchange (now (w .entry)) (length (now (t .entry))) (length (now (u .entry))))
+        × (now (t .exit) ≡ Lines.exchangeIn (now (w .entry)) (length (now (t .entry))) (length (now (u .entry))) .form)
+        × (now (u .exit) ≡ Lines.exchangeIn (now (w .entry)) (length (now (t .entry))) (length (now (u .entry))) .factor) ⌝ }
 {
     let a = t.len();
     let b = u.len();
