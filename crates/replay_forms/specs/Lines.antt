@@ -12,6 +12,8 @@ use Rattle.model.specs.Values as Values
 use Rattle.replay_text.specs.Float.{areWords}
 use Rattle.replay_text.specs.Shown.{judged, from}
 use Rattle.replay_text.specs.declared.outcome.Outcome.{Outcome}
+use Rattle.replay_forms.specs.declared.two.Call.{Call}
+use Rattle.replay_forms.specs.declared.two.Call.the-variants as Call
 
 -- word i is the number x
 abbrev pub is : List ℕ → ℕ → ℕ → Bool
@@ -37,9 +39,6 @@ sameMove w a b =
     is w e (r .answer) && is w (e + 1) (r .landed) && is w (e + 2) (r .swaps) && is w (e + 3) (r .declined)
     && are w (e + 4) a (r .form) && are w (e + 4 + a) b (r .factor)
 
-abbrev pub reorderSchur : List ℕ → Outcome
-reorderSchur w = let a = getD w 0 0 in let b = getD w 1 0 in judged (fits (length w) 9 0 a b) (sameMove w a b)
-
 -- an exchange, likewise
 abbrev pub exchangeIn : List ℕ → ℕ → ℕ → Exchange.Exchanged
 exchangeIn w a b =
@@ -52,9 +51,6 @@ sameExchange w a b =
     is w e (r .answer) && is w (e + 1) (r .swaps) && is w (e + 2) (r .declined)
     && are w (e + 3) a (r .form) && are w (e + 3 + a) b (r .factor)
 
-abbrev pub schurSwap : List ℕ → Outcome
-schurSwap w = let a = getD w 0 0 in let b = getD w 1 0 in judged (fits (length w) 9 0 a b) (sameExchange w a b)
-
 -- a form of a numbers and b lent for its vectors
 abbrev pub vectorsIn : List ℕ → ℕ → ℕ → Vectors.Vectors
 vectorsIn w a b = let n = getD w 2 0 in Vectors.evdFromRealSchur binary64 n n (from w 3 a) (from w (3 + a) b)
@@ -65,8 +61,37 @@ sameVectors w a b =
     let e = 3 + a + b in
     is w e (r .answer) && are w (e + 1) b (r .v)
 
+-- so many words are a line of the call, with a form of a numbers and a buffer of b
+unfoldable pub fitsTwo : Call → ℕ → ℕ → ℕ → Bool
+unfolding fits
+fitsTwo Call.Move words a b = fits words 9 0 a b
+fitsTwo Call.Exchange words a b = fits words 9 0 a b
+fitsTwo Call.Vectors words a b = fits words 4 a b 0
+
+-- whether a call gives what is expected, and the two buffers after it
+pub record Two : Type 0 where
+  pub same : Bool
+  pub first : List Float
+  pub second : List Float
+
+unfoldable pub two : Call → List ℕ → ℕ → ℕ → Two
+unfolding sameMove sameExchange sameVectors
+two Call.Move w a b = record { same = sameMove w a b; first = moveIn w a b .form; second = moveIn w a b .factor }
+two Call.Exchange w a b = record { same = sameExchange w a b; first = exchangeIn w a b .form; second = exchangeIn w a b .factor }
+two Call.Vectors w a b = record { same = sameVectors w a b; first = from w 3 a; second = vectorsIn w a b .v }
+
+-- a line of such a call: the two lengths stand first
+unfoldable pub onTwo : Call → List ℕ → Outcome
+onTwo call w = let a = getD w 0 0 in let b = getD w 1 0 in judged (fitsTwo call (length w) a b) (two call w a b .same)
+
+abbrev pub reorderSchur : List ℕ → Outcome
+reorderSchur w = onTwo Call.Move w
+
+abbrev pub schurSwap : List ℕ → Outcome
+schurSwap w = onTwo Call.Exchange w
+
 abbrev pub evdFromRealSchur : List ℕ → Outcome
-evdFromRealSchur w = let a = getD w 0 0 in let b = getD w 1 0 in judged (fits (length w) 4 a b 0) (sameVectors w a b)
+evdFromRealSchur w = onTwo Call.Vectors w
 
 -- a form of a numbers, and b and k lent for the parts of its values
 abbrev pub valuesIn : List ℕ → ℕ → ℕ → ℕ → Values.Values

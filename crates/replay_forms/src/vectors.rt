@@ -9,12 +9,14 @@ use crate::buffers::are;
 use crate::buffers::fill;
 use crate::buffers::fits;
 use crate::buffers::room;
+use crate::two::Call;
+use crate::two::on_two;
 use replay_text::float::are_words;
 use replay_text::outcome::Outcome;
 use replay_text::outcome::judge;
 
 // The vectors of a line's form, in buffers of the right lengths.
-fn same_vectors(w: &[u64], t: &mut [f64], v: &mut [f64]) -> bool
+pub fn same_vectors(w: &[u64], t: &mut [f64], v: &mut [f64]) -> bool
     requires { ⌜ (length (now t) ≤ 4225) × (length (now v) ≤ 4225) × (length (now w) ≡ 4 + length (now t) + 2 * length (now v)) ⌝ }
     ensures { λ r. ⌜ (r ≡ Lines.sameVectors (now (w .entry)) (length (now (t .entry))) (length (now (v .entry))))
         × (now (t .exit) ≡ from (now (w .entry)) 3 (length (now (t .entry))))
@@ -36,17 +38,7 @@ fn same_vectors(w: &[u64], t: &mut [f64], v: &mut [f64]) -> bool
 pub fn evd_from_real_schur(w: &[u64]) -> Outcome
     ensures { λ r. ⌜ r ≡ Lines.evdFromRealSchur (now (w .entry)) ⌝ }
 {
-    if w.len() < 4 {
-        return Outcome::Malformed;
-    }
-    let a = w[0] as usize;
-    let b = w[1] as usize;
-    if !fits(w.len(), 4, a, b, 0) {
-        return Outcome::Malformed;
-    }
-    let mut t = room();
-    let mut v = room();
-    judge(same_vectors(w, &mut t[..a], &mut v[..b]))
+    on_two(Call::Vectors, w)
 }
 
 // The values of a line's form, in buffers of the right lengths.
