@@ -12,6 +12,7 @@ use crate::vectors::same_vectors;
 use replay_text::outcome::Outcome;
 use replay_text::outcome::judge;
 
+// The call that a line is of.
 pub enum Call {
     Move,
     Exchange,
@@ -41,6 +42,7 @@ fn same(call: Call, w: &[u64], t: &mut [f64], u: &mut [f64]) -> bool
     }
 }
 
+// A line of such a call: its two lengths first.
 pub fn on_two(call: Call, w: &[u64]) -> Outcome
     ensures { λ r. ⌜ r ≡ Lines.onTwo call (now (w .entry)) ⌝ }
 {
