@@ -1,2 +1,2 @@
-// Floats by their bits, every NaN as one. Inside: only `sheet_words`, `replay_text`, `replay_forms` and `replay` call it.
+// Floats by their bits, every NaN as one. Inside: only `sheet_words`, `replay_text`, `replay_calls` and `replay_forms` call it.
 pub mod float;

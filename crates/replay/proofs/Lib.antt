@@ -1,1 +1,1 @@
-pub mod Past
+pub mod Replayed

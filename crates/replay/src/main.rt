@@ -1,28 +1,27 @@
 // Runs stored vectors: each line of standard input is a call's name, an index, what the call is
 // given and what the Rust gave. It prints of each call how many lines were run and how many of
 // them came out otherwise.
-mod blocks;
-mod calls;
 mod line;
 mod report;
 mod table;
 
 ghost use mathlib.Core.Path.{_≡_};
-ghost use Prim.Native.Nat.{_≤_};
-ghost use lib.ListN.{length};
-use crate::table::ROWS;
+ghost use lib.ListN.{length, replicate};
+ghost use Rattle.replay.specs.Replayed as Replayed;
 use libc::STDIN_FILENO;
+use replay_text::count::refuse;
+use replay_text::name::ROWS;
 
 // Room for a line with two forms and two factors of 64 rows.
 fn line_buffer() -> [u8; 300000]
-    ensures { λ r. ⌜ 300000 ≡ length r ⌝ }
+    ensures { λ r. ⌜ (r ≡ replicate 300000 0) × (300000 ≡ length r) ⌝ }
 {
     [0; 300000]
 }
 
 // Room for its words.
 fn word_buffer() -> [u64; 17000]
-    ensures { λ r. ⌜ 17000 ≡ length r ⌝ }
+    ensures { λ r. ⌜ (r ≡ replicate 17000 0) × (17000 ≡ length r) ⌝ }
 {
     [0; 17000]
 }
@@ -37,15 +36,16 @@ fn take_byte(
     runs: &mut [u64; ROWS],
     differ: &mut [u64; ROWS],
 ) -> usize
-    requires { ⌜ len ≤ length (now line) ⌝ }
-    ensures { λ r. ⌜ r ≤ length (now (line .entry)) ⌝ }
+    ensures { λ r. ⌜ (record { line = now (line .exit); len = r; desk = record { words = now (words .exit); counts = record { runs = now (runs .exit); differ = now (differ .exit) } } })
+        ≡ Replayed.taken b (record { line = now (line .entry); len = len; desk = record { words = now (words .entry); counts = record { runs = now (runs .entry); differ = now (differ .entry) } } }) ⌝ }
 {
     if b == b'\n' {
         if len < line.len() {
-            line::replay(&line[..len], words, runs, differ);
-        } else {
-            line::refuse(runs);
+            let told = line::replay(&line[..len], words, runs, differ);
+            line::tell(&line[..told]);
+            return 0;
         }
+        refuse(runs);
         return 0;
     }
     if len < line.len() {
@@ -64,8 +64,8 @@ fn take_bytes(
     runs: &mut [u64; ROWS],
     differ: &mut [u64; ROWS],
 ) -> usize
-    requires { ⌜ len ≤ length (now line) ⌝ }
-    ensures { λ r. ⌜ r ≤ length (now (line .entry)) ⌝ }
+    ensures { λ r. ⌜ (record { line = now (line .exit); len = r; desk = record { words = now (words .exit); counts = record { runs = now (runs .exit); differ = now (differ .exit) } } })
+        ≡ Replayed.takenAll (now (chunk .entry)) (record { line = now (line .entry); len = len; desk = record { words = now (words .entry); counts = record { runs = now (runs .entry); differ = now (differ .entry) } } }) ⌝ }
 {
     let mut len = len;
     let mut i = 0;
@@ -76,7 +76,8 @@ fn take_bytes(
     len
 }
 
-// Takes the input to its end, and answers how many bytes the line has that is not ended. A proved
+// Takes the input to its end, and answers how many bytes the line has that is not ended. What is
+// read cannot be promised: some input leads from the state at entry to the one at exit. A proved
 // loop has to end, and nothing says that the input does: so the turns are counted down, from a
 // number that no run uses up.
 fn take_input(
@@ -84,7 +85,10 @@ fn take_input(
     words: &mut [u64],
     runs: &mut [u64; ROWS],
     differ: &mut [u64; ROWS],
-) -> usize {
+) -> usize
+    ensures { λ r. ⌜ Replayed.Leads (record { line = now (line .entry); len = 0; desk = record { words = now (words .entry); counts = record { runs = now (runs .entry); differ = now (differ .entry) } } })
+        (record { line = now (line .exit); len = r; desk = record { words = now (words .exit); counts = record { runs = now (runs .exit); differ = now (differ .exit) } } }) ⌝ }
+{
     let mut len = 0;
     let mut turns = u64::MAX;
     while turns > 0 {
@@ -99,14 +103,21 @@ fn take_input(
     len
 }
 
+// At the input's end, a line that is not ended is no line of a call.
+fn close(len: usize, runs: &mut [u64; ROWS])
+    ensures { λ _. ⌜ now (runs .exit) ≡ Replayed.closed len (now (runs .entry)) ⌝ }
+{
+    if len > 0 {
+        refuse(runs);
+    }
+}
+
 fn main() {
     let mut line = line_buffer();
     let mut words = word_buffer();
     let mut runs = [0u64; ROWS];
     let mut differ = [0u64; ROWS];
     let len = take_input(&mut line, &mut words, &mut runs, &mut differ);
-    if len > 0 {
-        line::refuse(&mut runs);
-    }
+    close(len, &mut runs);
     report::report(&runs, &differ);
 }

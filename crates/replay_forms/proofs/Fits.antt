@@ -22,7 +22,7 @@ both true b h = (refl, h)
 both false b h = absurd (true≢false (sym h))
 
 module _ (words rest once a b : ℕ) where
-  told : fits words rest once a b ≡ true → Fit words rest once a b
+  pub told : fits words rest once a b ≡ true → Fit words rest once a b
   unfolding fits
   told h =
       let p = both (leb once 4225 && leb a 4225 && leb b 4225) (eqb words (rest + once + 2 * (a + b))) h in

@@ -1,7 +1,8 @@
 // Buffers of numbers, filled from the words of a line and compared with them.
 ghost use mathlib.Core.Path.{_≡_};
 ghost use Prim.Native.Nat.{_+_, _≤_};
-ghost use lib.ListN.{length};
+ghost use lib.Ieee.{binary64, ofBits};
+ghost use lib.ListN.{length, replicate};
 ghost use Rattle.replay_text.specs.Shown.{from};
 ghost use Rattle.replay_forms.specs.Lines as Lines;
 use bits::float::floats_of;
@@ -9,7 +10,7 @@ use replay_text::float::are_words;
 
 // Room for a form of 65 rows, one more than a call takes.
 pub fn room() -> [f64; 4225]
-    ensures { λ r. ⌜ 4225 ≡ length r ⌝ }
+    ensures { λ r. ⌜ (r ≡ replicate 4225 (ofBits binary64 0)) × (4225 ≡ length r) ⌝ }
 {
     [0.0; 4225]
 }

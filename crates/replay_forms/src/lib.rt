@@ -2,4 +2,5 @@
 // with the lengths of the buffers, so that buffers of any length up to 65 rows can stand in a line.
 mod buffers;
 pub mod moves;
+mod two;
 pub mod vectors;

@@ -6,15 +6,16 @@ ghost use lib.ListN.{length};
 ghost use Rattle.replay_forms.specs.Lines as Lines;
 use crate::buffers::are;
 use crate::buffers::fill;
-use crate::buffers::fits;
-use crate::buffers::room;
+use crate::two::Call;
+use crate::two::on_two;
 use replay_text::outcome::Outcome;
-use replay_text::outcome::judge;
 
 // The move of a line, in a form and a factor of the right lengths.
-fn same_move(w: &[u64], t: &mut [f64], u: &mut [f64]) -> bool
+pub fn same_move(w: &[u64], t: &mut [f64], u: &mut [f64]) -> bool
     requires { ⌜ (length (now t) ≤ 4225) × (length (now u) ≤ 4225) × (length (now w) ≡ 9 + 2 * (length (now t) + length (now u))) ⌝ }
-    ensures { λ r. ⌜ r ≡ Lines.sameMove (now (w .entry)) (length (now (t .entry))) (length (now (u .entry))) ⌝ }
+    ensures { λ r. ⌜ (r ≡ Lines.sameMove (now (w .entry)) (length (now (t .entry))) (length (now (u .entry))))
+        × (now (t .exit) ≡ Lines.moveIn (now (w .entry)) (length (now (t .entry))) (length (now (u .entry))) .form)
+        × (now (u .exit) ≡ Lines.moveIn (now (w .entry)) (length (now (t .entry))) (length (now (u .entry))) .factor) ⌝ }
 {
     let a = t.len();
     let b = u.len();
@@ -38,23 +39,15 @@ fn same_move(w: &[u64], t: &mut [f64], u: &mut [f64]) -> bool
 pub fn reorder_schur(w: &[u64]) -> Outcome
     ensures { λ r. ⌜ r ≡ Lines.reorderSchur (now (w .entry)) ⌝ }
 {
-    if w.len() < 9 {
-        return Outcome::Malformed;
-    }
-    let a = w[0] as usize;
-    let b = w[1] as usize;
-    if !fits(w.len(), 9, 0, a, b) {
-        return Outcome::Malformed;
-    }
-    let mut t = room();
-    let mut u = room();
-    judge(same_move(w, &mut t[..a], &mut u[..b]))
+    on_two(Call::Move, w)
 }
 
 // The exchange of a line, in a form and a factor of the right lengths.
-fn same_exchange(w: &[u64], t: &mut [f64], u: &mut [f64]) -> bool
+pub fn same_exchange(w: &[u64], t: &mut [f64], u: &mut [f64]) -> bool
     requires { ⌜ (length (now t) ≤ 4225) × (length (now u) ≤ 4225) × (length (now w) ≡ 9 + 2 * (length (now t) + length (now u))) ⌝ }
-    ensures { λ r. ⌜ r ≡ Lines.sameExchange (now (w .entry)) (length (now (t .entry))) (length (now (u .entry))) ⌝ }
+    ensures { λ r. ⌜ (r ≡ Lines.sameExchange (now (w .entry)) (length (now (t .entry))) (length (now (u .entry))))
+        × (now (t .exit) ≡ Lines.exchangeIn (now (w .entry)) (length (now (t .entry))) (length (now (u .entry))) .form)
+        × (now (u .exit) ≡ Lines.exchangeIn (now (w .entry)) (length (now (t .entry))) (length (now (u .entry))) .factor) ⌝ }
 {
     let a = t.len();
     let b = u.len();
@@ -78,15 +71,5 @@ fn same_exchange(w: &[u64], t: &mut [f64], u: &mut [f64]) -> bool
 pub fn schur_swap(w: &[u64]) -> Outcome
     ensures { λ r. ⌜ r ≡ Lines.schurSwap (now (w .entry)) ⌝ }
 {
-    if w.len() < 9 {
-        return Outcome::Malformed;
-    }
-    let a = w[0] as usize;
-    let b = w[1] as usize;
-    if !fits(w.len(), 9, 0, a, b) {
-        return Outcome::Malformed;
-    }
-    let mut t = room();
-    let mut u = room();
-    judge(same_exchange(w, &mut t[..a], &mut u[..b]))
+    on_two(Call::Exchange, w)
 }

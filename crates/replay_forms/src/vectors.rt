@@ -3,19 +3,24 @@
 ghost use mathlib.Core.Path.{_≡_};
 ghost use Prim.Native.Nat.{_+_, _*_, _≤_};
 ghost use lib.ListN.{length};
+ghost use Rattle.replay_text.specs.Shown.{from};
 ghost use Rattle.replay_forms.specs.Lines as Lines;
 use crate::buffers::are;
 use crate::buffers::fill;
 use crate::buffers::fits;
 use crate::buffers::room;
+use crate::two::Call;
+use crate::two::on_two;
 use replay_text::float::are_words;
 use replay_text::outcome::Outcome;
 use replay_text::outcome::judge;
 
 // The vectors of a line's form, in buffers of the right lengths.
-fn same_vectors(w: &[u64], t: &mut [f64], v: &mut [f64]) -> bool
+pub fn same_vectors(w: &[u64], t: &mut [f64], v: &mut [f64]) -> bool
     requires { ⌜ (length (now t) ≤ 4225) × (length (now v) ≤ 4225) × (length (now w) ≡ 4 + length (now t) + 2 * length (now v)) ⌝ }
-    ensures { λ r. ⌜ r ≡ Lines.sameVectors (now (w .entry)) (length (now (t .entry))) (length (now (v .entry))) ⌝ }
+    ensures { λ r. ⌜ (r ≡ Lines.sameVectors (now (w .entry)) (length (now (t .entry))) (length (now (v .entry))))
+        × (now (t .exit) ≡ from (now (w .entry)) 3 (length (now (t .entry))))
+        × (now (v .exit) ≡ Lines.vectorsIn (now (w .entry)) (length (now (t .entry))) (length (now (v .entry))) .v) ⌝ }
 {
     let a = t.len();
     let b = v.len();
@@ -33,23 +38,16 @@ fn same_vectors(w: &[u64], t: &mut [f64], v: &mut [f64]) -> bool
 pub fn evd_from_real_schur(w: &[u64]) -> Outcome
     ensures { λ r. ⌜ r ≡ Lines.evdFromRealSchur (now (w .entry)) ⌝ }
 {
-    if w.len() < 4 {
-        return Outcome::Malformed;
-    }
-    let a = w[0] as usize;
-    let b = w[1] as usize;
-    if !fits(w.len(), 4, a, b, 0) {
-        return Outcome::Malformed;
-    }
-    let mut t = room();
-    let mut v = room();
-    judge(same_vectors(w, &mut t[..a], &mut v[..b]))
+    on_two(Call::Vectors, w)
 }
 
 // The values of a line's form, in buffers of the right lengths.
 fn same_values(w: &[u64], t: &mut [f64], re: &mut [f64], im: &mut [f64]) -> bool
     requires { ⌜ (length (now t) ≤ 4225) × (length (now re) ≤ 4225) × (length (now im) ≤ 4225) × (length (now w) ≡ 5 + length (now t) + 2 * (length (now re) + length (now im))) ⌝ }
-    ensures { λ r. ⌜ r ≡ Lines.sameValues (now (w .entry)) (length (now (t .entry))) (length (now (re .entry))) (length (now (im .entry))) ⌝ }
+    ensures { λ r. ⌜ (r ≡ Lines.sameValues (now (w .entry)) (length (now (t .entry))) (length (now (re .entry))) (length (now (im .entry))))
+        × (now (t .exit) ≡ from (now (w .entry)) 4 (length (now (t .entry))))
+        × (now (re .exit) ≡ Lines.valuesIn (now (w .entry)) (length (now (t .entry))) (length (now (re .entry))) (length (now (im .entry))) .parts .re)
+        × (now (im .exit) ≡ Lines.valuesIn (now (w .entry)) (length (now (t .entry))) (length (now (re .entry))) (length (now (im .entry))) .parts .im) ⌝ }
 {
     let a = t.len();
     let b = re.len();
@@ -88,7 +86,8 @@ pub fn block_values(w: &[u64]) -> Outcome
 // The column of a line's vectors, in a buffer of the right length.
 fn same_column(w: &[u64], v: &mut [f64]) -> bool
     requires { ⌜ (length (now v) ≤ 4225) × (3 + length (now v) ≤ length (now w)) ⌝ }
-    ensures { λ r. ⌜ r ≡ Lines.sameColumn (now (w .entry)) (length (now (v .entry))) ⌝ }
+    ensures { λ r. ⌜ (r ≡ Lines.sameColumn (now (w .entry)) (length (now (v .entry))))
+        × (now (v .exit) ≡ from (now (w .entry)) 3 (length (now (v .entry)))) ⌝ }
 {
     let e = 3 + v.len();
     fill(&mut *v, w, 3);

@@ -1,1 +1,4 @@
+pub mod Found
 pub mod Words
+pub mod Past
+pub mod Names

@@ -1,3 +1,5 @@
 pub mod Text
 pub mod Float
 pub mod Shown
+pub mod Names
+pub mod Counts

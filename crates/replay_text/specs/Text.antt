@@ -1,10 +1,9 @@
 -- What the text of a stored vector says. Definitions only. Assumes nothing.
-use Prim.Native.Nat.{ℕ, zero, suc, _+_, _-_, _*_, _≤_, _<_}
-use mathlib.Core.Path.{_≡_}
+use Prim.Native.Nat.{ℕ, zero, suc, _+_, _-_, _*_}
 use mathlib.Core.Bool.{cond}
 use mathlib.Core.List.{List}
 use lib.Dec.{leb, ltb, eqb}
-use lib.ListN.{length, getD}
+use lib.ListN.{length, getD, set}
 use Rattle.replay_text.specs.declared.word.Word.{Word}
 use Rattle.replay_text.specs.declared.word.Word.the-variants as Word
 use Rattle.replay_text.specs.declared.word.Found.{Found}
@@ -26,12 +25,26 @@ unfoldable pub wordAt : List ℕ → ℕ → Word
 unfolding digitsFrom
 wordAt s at = cond (ltb (length s) (at + 17)) Word.Malformed (cond (eqb (getD s at 0) 32) (digitsFrom s 16 (at + 1) 0) Word.Malformed)
 
--- n words stand from a place of the line to its end, and out holds them from its start on
-pub record Are (s : List ℕ) (from : ℕ) (out : List ℕ) (n : ℕ) : Type 0 where
-  pub room : n ≤ length out
-  pub all : length s ≡ from + 17 * n
-  pub each : (k : ℕ) → k < n → wordAt s (from + 17 * k) ≡ Word.Is (getD out k 0)
+-- what was found in a line, and what the buffer for its words then holds
+pub record Read : Type 0 where
+  pub found : Found
+  pub out : List ℕ
 
-abbrev pub Holds : List ℕ → ℕ → List ℕ → Found → Type 0
-Holds s from out (Found.Words n) = Are s from out n
-Holds s from out Found.Malformed = Unit {0}
+-- by what stands at a place: go on with the word, or end
+abbrev pub onWord : {A : Type 0} → Word → (ℕ → A) → A → A
+onWord (Word.Is w) more none = more w
+onWord Word.Malformed more none = none
+
+-- the words from a place to the line's end, where n stand in the buffer already and k more have room
+unfoldable pub wordsFrom : List ℕ → ℕ → ℕ → ℕ → List ℕ → Read
+unfolding wordAt
+wordsFrom s zero at n out = record { found = cond (ltb at (length s)) Found.Malformed (Found.Words n); out = out }
+wordsFrom s (suc k) at n out =
+    cond (ltb at (length s))
+    (onWord (wordAt s at) (λ w. wordsFrom s k (at + 17) (n + 1) (set out n w)) (record { found = Found.Malformed; out = out }))
+    (record { found = Found.Words n; out = out })
+
+-- the words from a place to the line's end, put at the buffer's start; no words where the line ends before the place
+unfoldable pub wordsOf : List ℕ → ℕ → List ℕ → Read
+unfolding wordsFrom
+wordsOf s from out = cond (ltb (length s) from) (record { found = Found.Malformed; out = out }) (wordsFrom s (length out) from 0 out)

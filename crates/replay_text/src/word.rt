@@ -2,7 +2,7 @@
 ghost use mathlib.Core.Path.{_≡_};
 ghost use Prim.Native.Nat.{_+_, _≤_};
 ghost use lib.ListN.{length};
-ghost use Rattle.replay_text.specs.Text.{digitOf, digitsFrom, wordAt, Holds};
+ghost use Rattle.replay_text.specs.Text.{digitOf, digitsFrom, wordAt, wordsOf};
 
 // What stands at a place: a word, or no word.
 pub enum Word {
@@ -71,9 +71,9 @@ fn word_at(s: &[u8], at: usize) -> Word
 }
 
 // The words from a place of the line to its end, written to `out`. More words than `out` has
-// room for are malformed.
+// room for are malformed; the words before what is malformed are written.
 pub fn words(s: &[u8], from: usize, out: &mut [u64]) -> Found
-    ensures { λ r. ⌜ Holds (now (s .entry)) from (now (out .exit)) r ⌝ }
+    ensures { λ r. ⌜ (record { found = r; out = now (out .exit) }) ≡ wordsOf (now (s .entry)) from (now (out .entry)) ⌝ }
 {
     if s.len() < from {
         return Found::Malformed;

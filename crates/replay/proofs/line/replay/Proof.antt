@@ -1,31 +1,24 @@
--- `replay::line::replay` is safe and ends: the words that are handed on are those that were found, and a line with words reaches past its index. Assumes nothing.
-use mathlib.Core.Path.{_≡_, sym, subst}
-use mathlib.Core.List.{List}
-use Prim.Native.Nat.{ℕ}
+-- `replay::line::replay` meets its contract, by what was found of its words. Assumes nothing.
+use mathlib.Core.Path.{sym}
+use Prim.Native.Nat.{_+_, _≤_}
+use lib.ListN.{length}
 use native.Mathlib.Omega.{arith}
 use lib.Seq.{length-take-le}
-use Rattle.replay_text.specs.Text.{Are, Holds}
-use Rattle.replay_text.specs.declared.word.Found.{Found}
-use Rattle.replay_text.specs.declared.word.Found.the-variants as Found
+use Rattle.replay_text.specs.Counts.{tallied}
+use Rattle.replay_text.proofs.Names.{named-bound}
+use Rattle.replay.proofs.Replayed.{end-inside, words-room, index-inside, no-words, no-index, as-shown}
 use borrow.Author.Needs.{needs}
 use Rattle.replay.proofs.line.replay.Statement.{statement}
 use Rattle.replay.proofs.line.replay.Tie as tie
 
--- the words that were found
-told : (s : List ℕ) (k : ℕ) (out : List ℕ) (f : Found) (n : ℕ) → f ≡ Found.Words n → Holds s k out f → Are s k out n
-told s k out f n e h = subst (Holds s k out) e h
-
 name-end-requires : tie.Need-name-end-requires
 name-end-requires c κs = search needs
 
-slice-aggregate-padded : tie.Need-slice-aggregate-padded
-slice-aggregate-padded c = sym (length-take-le _ _ (c .before .name-end .ensures))
+slice-aggregate-call-named : tie.Need-slice-aggregate-call-named
+slice-aggregate-call-named c = sym (length-take-le _ _ (end-inside _ _ (c .before .name-end .ensures)))
 
-padded-requires : tie.Need-padded-requires
-padded-requires c κs = search needs
-
-call-of-requires : tie.Need-call-of-requires
-call-of-requires c κs = search needs
+call-named-requires : tie.Need-call-named-requires
+call-named-requires c κs = search needs
 
 words-requires : tie.Need-words-requires
 words-requires c κs = search needs
@@ -43,7 +36,13 @@ same-length : tie.Need-same-length
 same-length c = search needs
 
 returns : tie.Need-returns
-returns c = search needs
+unfolding tallied
+returns c =
+    let m = c .before .before in
+    let w = m .before .before .before .before in
+    let n = w .before .before in
+    rw (c .refuse .ensures)
+    (sym (no-words _ _ _ _ _ _ _ (n .before .before .name-end .ensures) (n .call-named .ensures) (w .words .ensures) (m .enum-told .given .1)))
 
 refuse-requires-2 : tie.Need-refuse-requires-2
 refuse-requires-2 c κs = search needs
@@ -52,7 +51,15 @@ same-length-2 : tie.Need-same-length-2
 same-length-2 c = search needs
 
 returns-2 : tie.Need-returns-2
-returns-2 c = search needs
+unfolding tallied
+returns-2 c =
+    let i = c .before .before in
+    let m = i .before .before in
+    let w = m .before .before .before .before in
+    let n = w .before .before in
+    rw (c .refuse2 .ensures)
+    (sym
+    (no-index _ _ _ _ _ _ _ (n .before .before .name-end .ensures) (n .call-named .ensures) (w .words .ensures) _ (m .n .given .1) (i .if1 .taken)))
 
 sub-run : tie.Need-sub-run
 sub-run c = search needs
@@ -62,73 +69,51 @@ part-run-start c = search needs
 
 part-run-end : tie.Need-part-run-end
 part-run-end c =
-    let n = c .before .before .before in
-    told _ _ _ _ _ (n .n .given .1) (n .before .before .before .before .words .ensures) .room
+    let m = c .before .before .before in
+    let w = m .before .before .before .before in
+    rw (w .words .kept .1 .1 .0) (words-room _ _ _ _ _ _ (w .words .ensures) (m .n .given .1))
 
 run-requires : tie.Need-run-requires
 run-requires c κs = search needs
 
-enum-told-2 : tie.Need-enum-told-2
-enum-told-2 c = search needs
+tally-requires : tie.Need-tally-requires
+tally-requires c κs =
+    let w = c .before .before .before .before .before .before .before .before .before .before .before in
+    let n = w .before .before in
+    rw (n .call-named .ensures) (named-bound _)
 
-count-requires : tie.Need-count-requires
-count-requires c κs = search needs
-
-enum-told-3 : tie.Need-enum-told-3
-enum-told-3 c = search needs
-
-count-requires-2 : tie.Need-count-requires-2
-count-requires-2 c κs = search needs
-
-count-requires-3 : tie.Need-count-requires-3
-count-requires-3 c κs = search needs
-
-add-tell : tie.Need-add-tell
-add-tell c = search needs
-
-slice-aggregate-tell : tie.Need-slice-aggregate-tell
-slice-aggregate-tell c =
-    let e = c .before .before .before .before .before .before .before .before .before .before in
-    let n = e .before .before in
-    let w = n .before .before .before .before in
-    let all = told _ _ _ _ _ (n .n .given .1) (w .words .ensures) .all in
-    sym (length-take-le _ _ (omega (arith, all, e .if1 .left)))
-
-tell-requires : tie.Need-tell-requires
-tell-requires c κs = search needs
-
-enum-told-4 : tie.Need-enum-told-4
-enum-told-4 c = search needs
-
-refuse-requires-3 : tie.Need-refuse-requires-3
-refuse-requires-3 c κs = search needs
+told-requires : tie.Need-told-requires
+told-requires c κs =
+    let i = c .before .before .before .before .before .before in
+    let m = i .before .before in
+    let w = m .before .before .before .before in
+    let n = w .before .before .before .before in
+    let a = n .before .before .before .args in
+    let h : n .name-end .result + 17 ≤ length (a .line .now) = index-inside _ _ _ _ _ _ (w .words .ensures) (m .n .given .1) (i .if1 .left) in
+    omega arith
 
 same-length-3 : tie.Need-same-length-3
 same-length-3 c = search needs
 
 returns-3 : tie.Need-returns-3
-returns-3 c = search needs
-
-same-length-4 : tie.Need-same-length-4
-same-length-4 c = search needs
-
-returns-4 : tie.Need-returns-4
-returns-4 c = search needs
-
-same-length-5 : tie.Need-same-length-5
-same-length-5 c = search needs
-
-returns-5 : tie.Need-returns-5
-returns-5 c = search needs
+returns-3 c =
+    let t = c .before in
+    let r = t .before .before .before in
+    let i = r .before .before .before in
+    let m = i .before .before in
+    let w = m .before .before .before .before in
+    let n = w .before .before in
+    rw (c .told .ensures, t .tally .ensures)
+    (sym
+    (as-shown _ _ _ _ _ _ _ (n .before .before .name-end .ensures) (n .call-named .ensures) (w .words .ensures) _ (m .n .given .1) (i .if1 .left) _ (r .run .ensures)))
 
 pub replay-spec : {M : Type 1} → statement M
 replay-spec =
     tie.close
     (tie.spec
     name-end-requires
-    slice-aggregate-padded
-    padded-requires
-    call-of-requires
+    slice-aggregate-call-named
+    call-named-requires
     words-requires
     enum-known-n
     enum-told
@@ -142,19 +127,7 @@ replay-spec =
     part-run-start
     part-run-end
     run-requires
-    enum-told-2
-    count-requires
-    enum-told-3
-    count-requires-2
-    count-requires-3
-    add-tell
-    slice-aggregate-tell
-    tell-requires
-    enum-told-4
-    refuse-requires-3
+    tally-requires
+    told-requires
     same-length-3
-    returns-3
-    same-length-4
-    returns-4
-    same-length-5
-    returns-5)
+    returns-3)

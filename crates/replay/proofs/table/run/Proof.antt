@@ -5,7 +5,7 @@ use Prim.Native.Nat.{ℕ}
 use lib.ListN.{List·getD-eq-default}
 use Rattle.replay_text.specs.declared.outcome.Outcome.{Outcome}
 use Rattle.replay.specs.Table.{lines, none}
-use Rattle.replay.proofs.Past.{past}
+use Rattle.replay_text.proofs.Past.{past}
 use borrow.Author.Needs.{needs}
 use Rattle.replay.proofs.table.run.Statement.{statement}
 use Rattle.replay.proofs.table.run.Tie as tie

@@ -43,7 +43,7 @@ slice-aggregate-same-values : tie.Need-slice-aggregate-same-values
 slice-aggregate-same-values c =
     let r = c .before .before .before in
     let d = r .before in
-    sym (front _ (r .room .result) (r .room .ensures) (fit _ _ _ _ _ _ (d .before .fits2 .ensures) (d .if2 .left) .given))
+    sym (front _ (r .room .result) (r .room .ensures .1) (fit _ _ _ _ _ _ (d .before .fits2 .ensures) (d .if2 .left) .given))
 
 array-borrow-prefix-re : tie.Need-array-borrow-prefix-re
 array-borrow-prefix-re c =
@@ -54,7 +54,7 @@ slice-aggregate-same-values-2 : tie.Need-slice-aggregate-same-values-2
 slice-aggregate-same-values-2 c =
     let r = c .before .before .before in
     let d = r .before .before in
-    sym (front _ (r .room2 .result) (r .room2 .ensures) (fit _ _ _ _ _ _ (d .before .fits2 .ensures) (d .if2 .left) .first))
+    sym (front _ (r .room2 .result) (r .room2 .ensures .1) (fit _ _ _ _ _ _ (d .before .fits2 .ensures) (d .if2 .left) .first))
 
 array-borrow-prefix-im : tie.Need-array-borrow-prefix-im
 array-borrow-prefix-im c =
@@ -65,7 +65,7 @@ slice-aggregate-same-values-3 : tie.Need-slice-aggregate-same-values-3
 slice-aggregate-same-values-3 c =
     let r = c .before .before .before in
     let d = r .before .before .before in
-    sym (front _ (r .room3 .result) (r .room3 .ensures) (fit _ _ _ _ _ _ (d .before .fits2 .ensures) (d .if2 .left) .second))
+    sym (front _ (r .room3 .result) (r .room3 .ensures .1) (fit _ _ _ _ _ _ (d .before .fits2 .ensures) (d .if2 .left) .second))
 
 same-values-requires : tie.Need-same-values-requires
 same-values-requires c κs =
@@ -75,7 +75,7 @@ same-values-requires c κs =
     let d = r1 .before in
     let f = fit _ _ _ _ _ _ (d .before .fits2 .ensures) (d .if2 .left) in
     let w = d .before .before .before .before .before .before .before .args .w .now in
-    rw (front (getD w 0 0) (r1 .room .result) (r1 .room .ensures) (f .given), front (getD w 1 0) (r2 .room2 .result) (r2 .room2 .ensures) (f .first), front (getD w 2 0) (r3 .room3 .result) (r3 .room3 .ensures) (f .second)) (f .given, f .first, f .second, f .all)
+    rw (front (getD w 0 0) (r1 .room .result) (r1 .room .ensures .1) (f .given), front (getD w 1 0) (r2 .room2 .result) (r2 .room2 .ensures .1) (f .first), front (getD w 2 0) (r3 .room3 .result) (r3 .room3 .ensures .1) (f .second)) (f .given, f .first, f .second, f .all)
 
 judge-requires : tie.Need-judge-requires
 judge-requires c κs = search needs
@@ -89,7 +89,7 @@ returns-3 c =
     let d = r1 .before in
     let f = fit _ _ _ _ _ _ (d .before .fits2 .ensures) (d .if2 .left) in
     let w = d .before .before .before .before .before .before .before .args .w .now in
-    rw (c .judge .ensures, m .same-values .ensures, front (getD w 0 0) (r1 .room .result) (r1 .room .ensures) (f .given), front (getD w 1 0) (r2 .room2 .result) (r2 .room2 .ensures) (f .first), front (getD w 2 0) (r3 .room3 .result) (r3 .room3 .ensures) (f .second), yes _ _ _ _ _ _ (d .before .fits2 .ensures) (d .if2 .left))
+    rw (c .judge .ensures, m .same-values .ensures .0, front (getD w 0 0) (r1 .room .result) (r1 .room .ensures .1) (f .given), front (getD w 1 0) (r2 .room2 .result) (r2 .room2 .ensures .1) (f .first), front (getD w 2 0) (r3 .room3 .result) (r3 .room3 .ensures .1) (f .second), yes _ _ _ _ _ _ (d .before .fits2 .ensures) (d .if2 .left))
 
 pub block-values-spec : {M : Type 1} → statement M
 block-values-spec =

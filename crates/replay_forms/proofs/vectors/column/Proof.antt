@@ -34,14 +34,14 @@ array-borrow-prefix-v : tie.Need-array-borrow-prefix-v
 array-borrow-prefix-v c = search needs
 
 slice-aggregate-same-column : tie.Need-slice-aggregate-same-column
-slice-aggregate-same-column c = sym (front _ (c .before .room .result) (c .before .room .ensures) (c .before .before .before .if2 .left))
+slice-aggregate-same-column c = sym (front _ (c .before .room .result) (c .before .room .ensures .1) (c .before .before .before .if2 .left))
 
 same-column-requires : tie.Need-same-column-requires
 same-column-requires c κs =
     let r = c .before in
     let d = r .before .before in
     let w = d .before .before .before .before .args .w .now in
-    rw (front (getD w 0 0) (r .room .result) (r .room .ensures) (d .if2 .left)) (d .if2 .left, r .before .if3 .left)
+    rw (front (getD w 0 0) (r .room .result) (r .room .ensures .1) (d .if2 .left)) (d .if2 .left, r .before .if3 .left)
 
 judge-requires : tie.Need-judge-requires
 judge-requires c κs = search needs
@@ -52,7 +52,7 @@ returns-4 c =
     let r = m .before .before in
     let d = r .before .before in
     let w = d .before .before .before .before .args .w .now in
-    rw (c .judge .ensures, m .same-column .ensures, front (getD w 0 0) (r .room .result) (r .room .ensures) (d .if2 .left), le-leb _ _ (d .if2 .left), le-leb _ _ (r .before .if3 .left))
+    rw (c .judge .ensures, m .same-column .ensures .0, front (getD w 0 0) (r .room .result) (r .room .ensures .1) (d .if2 .left), le-leb _ _ (d .if2 .left), le-leb _ _ (r .before .if3 .left))
 
 pub column-spec : {M : Type 1} → statement M
 column-spec =

@@ -47,12 +47,14 @@ returns c =
     let c1 = c .before .before in
     let c2 = c1 .before .before .before .before .before .before in
     let a = c2 .before .before .before .before .args in
-    let e = 3 + length (a .v .now) in
-    rw (
-      c .are-words .ensures,
-      take-all (length (a .w .now) - e) (drop e (a .w .now)) (simp length-drop (omega arith)),
-      c1 .column .ensures,
-      ← c2 .fill .ensures,
+    let e = 3 + length (a .v .now) in (
+      rw (
+        c .are-words .ensures,
+        take-all (length (a .w .now) - e) (drop e (a .w .now)) (simp length-drop (omega arith)),
+        c1 .column .ensures,
+        ← c2 .fill .ensures,
+      ),
+      c2 .fill .ensures,
     )
 
 pub same-column-spec : {M : Type 1} → statement M

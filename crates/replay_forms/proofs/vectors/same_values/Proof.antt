@@ -74,8 +74,12 @@ returns c =
     let c2 = c1 .before .before .before .before .before .before .before in
     let c3 = c2 .before .before .before .before .before .before .before in
     let c4 = c3 .before .before .before .before in
-    let c5 = c4 .before .before .before .before in
-    rw (c .are2 .ensures, c1 .are .ensures, ← c5 .fill .ensures, ← c4 .fill2 .ensures, ← c3 .fill3 .ensures, ← c2 .block-values .ensures)
+    let c5 = c4 .before .before .before .before in (
+      rw (c .are2 .ensures, c1 .are .ensures, ← c5 .fill .ensures, ← c4 .fill2 .ensures, ← c3 .fill3 .ensures, ← c2 .block-values .ensures),
+      c5 .fill .ensures,
+      rw (← c5 .fill .ensures, ← c4 .fill2 .ensures, ← c3 .fill3 .ensures, ← c2 .block-values .ensures),
+      rw (← c5 .fill .ensures, ← c4 .fill2 .ensures, ← c3 .fill3 .ensures, ← c2 .block-values .ensures),
+    )
 
 pub same-values-spec : {M : Type 1} → statement M
 same-values-spec =

@@ -48,8 +48,11 @@ unfolding sameVectors
 returns c =
     let c1 = c .before .before .before .before .before in
     let c2 = c1 .before .before .before .before .before .before in
-    let c3 = c2 .before .before .before .before in
-    rw (c .are .ensures, ← c3 .fill .ensures, ← c2 .fill2 .ensures, ← c1 .evd-from-real-schur .ensures)
+    let c3 = c2 .before .before .before .before in (
+      rw (c .are .ensures, ← c3 .fill .ensures, ← c2 .fill2 .ensures, ← c1 .evd-from-real-schur .ensures),
+      c3 .fill .ensures,
+      rw (← c3 .fill .ensures, ← c2 .fill2 .ensures, ← c1 .evd-from-real-schur .ensures),
+    )
 
 pub same-vectors-spec : {M : Type 1} → statement M
 same-vectors-spec =

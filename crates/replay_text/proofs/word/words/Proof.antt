@@ -1,56 +1,65 @@
--- `replay_text::word::words` meets its contract. The invariant: the words before the place are those that `out` holds. Assumes nothing.
+-- `replay_text::word::words` meets its contract. The invariant: the words from the place on, after those that `out` holds, are all words. Assumes nothing.
 use mathlib.Core.Path.{_≡_, refl, sym, _∙_}
-use Prim.Native.Nat.{ℕ, _+_, _-_, _*_, _≤_, _<_}
+use Prim.Native.Nat.{ℕ, zero, suc, _+_, _-_, _≤_, _<_}
+use native.Mathlib.Nat.{sub-zero}
 use native.Mathlib.Omega.{arith}
-use mathlib.Core.Bool.{Bool, true, false}
 use mathlib.Core.List.{List}
-use lib.Dec.{ltb}
-use lib.ListN.{length, getD, set, length-set}
-use lib.Seq.{getD-set-same, getD-set-other}
-use borrow.Author.Count.{below-more}
-use borrow.Author.Tests.{ltb-false}
+use lib.ListN.{length, set, length-set}
+use borrow.Author.Tests.{lt-ltb, le-ltb}
 use borrow.Author.Needs.{needs}
-use Rattle.replay_text.specs.Text.{wordAt}
+use Rattle.replay_text.specs.Text.{Read, wordAt, wordsFrom, wordsOf}
 use Rattle.replay_text.specs.declared.word.Word.the-variants as Word
+use Rattle.replay_text.specs.declared.word.Found.the-variants as Found
+use Rattle.replay_text.proofs.Found.{whole}
 use Rattle.replay_text.proofs.word.words.Statement.{statement}
 use Rattle.replay_text.proofs.word.words.Tie as tie
 
--- a word that is there lies inside the line
-whole : (s : List ℕ) (at w : ℕ) → wordAt s at ≡ Word.Is w → at + 17 ≤ length s
-unfolding wordAt
-whole s at w h = by (ltb (length s) (at + 17)) refl
-  where
-    by : (b : Bool) → ltb (length s) (at + 17) ≡ b → at + 17 ≤ length s
-    by true e = let m : Word.Malformed ≡ Word.Is w = rw e at h in let z : _≡_ {A = ℕ} 0 1 = cc in absurd (omega arith)
-    by false e = ltb-false _ _ e
+module _ (s out : List ℕ) (at n : ℕ) where
+  -- the line has ended
+  ended : (k : ℕ) → length s ≤ at → wordsFrom s k at n out ≡ record { found = Found.Words n; out = out }
+  unfolding wordsFrom
+  ended zero h = rw (le-ltb at (length s) h)
+  ended (suc k) h = rw (le-ltb at (length s) h)
 
--- one word more, written at n
-more : (P : ℕ → ℕ → Type 0) (out : List ℕ) (n w : ℕ) → n < length out → ((k : ℕ) → k < n → P k (getD out k 0)) → P n w
-    → (k : ℕ) → k < n + 1 → P k (getD (set out n w) k 0)
-more P out n w l old new =
-    below-more (λ (k : ℕ). P k (getD (set out n w) k 0)) n
-    (λ k h. rw (getD-set-other out n k w 0 (λ e. omega arith)) (old k h))
-    (rw (getD-set-same out n w 0 l) new)
+  -- no room, and the line goes on
+  full : at < length s → n ≡ length out → wordsFrom s (length out - n) at n out ≡ record { found = Found.Malformed; out = out }
+  unfolding wordsFrom
+  full h f = let e : length out - n ≡ 0 = omega arith in rw (e, lt-ltb at (length s) h)
+
+  module _ (inside : at < length s) (room : n < length out) where
+    left : length out - n ≡ suc (length out - (n + 1))
+    left = omega arith
+
+    bad : wordAt s at ≡ Word.Malformed → wordsFrom s (length out - n) at n out ≡ record { found = Found.Malformed; out = out }
+    unfolding wordsFrom
+    bad h = rw (left, lt-ltb at (length s) inside, h)
+
+    more : (w : ℕ) → wordAt s at ≡ Word.Is w
+        → wordsFrom s (length (set out n w) - (n + 1)) (at + 17) (n + 1) (set out n w) ≡ wordsFrom s (length out - n) at n out
+    unfolding wordsFrom
+    more w h = rw (length-set, left, lt-ltb at (length s) inside, h)
 
 abbrev Inv-loop : tie.InvT-loop
 Inv-loop s from out₀ at₀ n₀ out at n =
-    (at ≡ from + 17 * n) × (at ≤ length s) × (n ≤ length out) × (length out ≡ length out₀)
-    × ((k : ℕ) → k < n → wordAt s (from + 17 * k) ≡ Word.Is (getD out k 0))
+    (at ≤ length s) × (n ≤ length out) × (length out ≡ length out₀)
+    × (wordsFrom s (length out - n) at n out ≡ wordsOf s from out₀)
 
 abbrev μ-loop : tie.MeasureT-loop
 μ-loop s from out₀ at₀ n₀ out at n = length s - at
 
 returns : tie.Need-returns Inv-loop μ-loop
-returns c = search needs
+unfolding wordsOf
+returns c = rw (lt-ltb _ _ (c .if1 .taken))
 
 loop-holds : tie.Need-loop-holds Inv-loop μ-loop
-loop-holds c = (search needs, search needs, search needs, search needs, λ k h. absurd (omega arith))
+unfolding wordsOf
+loop-holds c = (search needs, search needs, search needs, rw (sub-zero, le-ltb _ _ (c .if1 .left)))
 
 same-length : tie.Need-same-length Inv-loop μ-loop
 same-length c = search needs
 
 returns-2 : tie.Need-returns-2 Inv-loop μ-loop
-returns-2 c = search needs
+returns-2 c = let l = c .before .before in sym (full _ _ _ _ (c .before .loop-test .taken) (c .if2 .taken)) ∙ l .loop .inv .3
 
 word-at-requires : tie.Need-word-at-requires Inv-loop μ-loop
 word-at-requires c κs = search needs
@@ -65,7 +74,10 @@ same-length-2 : tie.Need-same-length-2 Inv-loop μ-loop
 same-length-2 c = search needs
 
 returns-3 : tie.Need-returns-3 Inv-loop μ-loop
-returns-3 c = search needs
+returns-3 c =
+    let g = c .before .before in
+    let l = g .before .before .before in
+    sym (bad _ _ _ _ (search needs) (search needs) (sym (g .word-at .ensures) ∙ c .enum-told .given .1)) ∙ l .loop .inv .3
 
 mul-out : tie.Need-mul-out Inv-loop μ-loop
 mul-out c = search needs
@@ -86,20 +98,15 @@ loop-again : tie.Need-loop-again Inv-loop μ-loop
 loop-again c =
     let g = c .before .before .before in
     let l = g .before .before .before in
-    let a = l .before .before .before .before .args in
-    let is = sym (g .word-at .ensures) ∙ c .before .w .given .1 in (
-      search needs,
-      whole _ _ _ is,
-      simp length-set (omega arith),
-      search needs,
-      more (λ (k v : ℕ). wordAt (a .s .now) (a .from + 17 * k) ≡ Word.Is v) (l .loop .out) (l .loop .n) _ (search needs) (l .loop .inv .4) (rw (l .loop .inv .0) at is),
-    )
+    let is = sym (g .word-at .ensures) ∙ c .before .w .given .1 in
+    let room : l .loop .n < length (l .loop .out) = omega arith in
+    (whole _ _ _ is, simp length-set (omega arith), search needs, more _ (l .loop .out) _ _ (g .before .before .loop-test .taken) room _ is ∙ l .loop .inv .3)
 
 same-length-3 : tie.Need-same-length-3 Inv-loop μ-loop
 same-length-3 c = search needs
 
 returns-4 : tie.Need-returns-4 Inv-loop μ-loop
-returns-4 c = search needs
+returns-4 c = sym (ended _ _ _ _ _ (c .loop-test .left)) ∙ c .before .loop .inv .3
 
 pub words-spec : {M : Type 1} → statement M
 words-spec =
