@@ -1,2 +1,2 @@
-// Floats by their bits, every NaN as one. Inside: only `sheet_words`, `replay_text`, `replay_calls` and `replay_forms` call it.
+// Inside (`sheet_words`, `sheet_text`, `replay_text`, `replay_calls`, `replay_forms`): floats by their bits, every NaN as one.
 pub mod float;

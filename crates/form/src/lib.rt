@@ -1,5 +1,5 @@
-// What speaks of a form: the lines of document 01's list that a form by itself meets, in one scan; the
-// places of its numbers, its blocks, and the lines of a move and an exchange.
+// Inside (`swaps`, `schur`, `solve`, `evd`): what speaks of a form. The lines of document 01's list that it
+// meets by itself, the places of its numbers, its blocks, and the lines of a move and an exchange.
 ghost use mathlib.Core.Path.{_≡_};
 ghost use mathlib.Core.Bool.{_||_, _&&_, cond};
 ghost use Prim.Native.Nat.{ℕ, _+_, _-_, _*_, _<_, _≤_};

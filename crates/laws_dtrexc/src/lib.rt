@@ -1,1 +1,1 @@
-// The claim that a move's exchanges are those of LAPACK's dtrexc, and its proof (specs/, proofs/).
+// Laws: a move's exchanges are those of LAPACK's dtrexc. The claims are in specs/, their proofs in proofs/.

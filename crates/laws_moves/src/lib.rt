@@ -1,1 +1,1 @@
-// The rule on lists of moves (demand 3): the statement is in specs/, its proof in proofs/.
+// Laws: the rule on lists of moves (demand 3). The statement is in specs/, its proof in proofs/.

@@ -1,3 +1,3 @@
-// Small dense kernels by value, with no form: rotations and reflections.
+// Offered: small dense kernels by value, with no form: rotations and reflections.
 pub mod householder;
 pub mod jacobi;

@@ -1,4 +1,4 @@
-// Runs stored vectors: each line of standard input is a call's name, an index, what the call is
+// Tests: runs stored vectors. Each line of standard input is a call's name, an index, what the call is
 // given and what the Rust gave. It prints of each call how many lines were run and how many of
 // them came out otherwise.
 mod line;

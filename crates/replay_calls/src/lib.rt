@@ -1,3 +1,3 @@
-// Lines of the calls on numbers and on blocks of two rows: one function for each call. Only `replay` calls it.
+// Tests: lines of the calls on numbers and on blocks of two rows, one function for each call.
 pub mod blocks;
 pub mod calls;

@@ -1,3 +1,3 @@
-// The square root.
+// Offered: the square root.
 pub mod sqrt;
 mod table;

@@ -1,4 +1,4 @@
-// Reordering a real Schur form: `swap::schur_swap` and `reorder::reorder_schur` are offered.
+// Offered: reordering a real Schur form, `swap::schur_swap` and `reorder::reorder_schur`.
 mod exchange;
 mod moving;
 pub mod reorder;

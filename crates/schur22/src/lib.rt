@@ -1,2 +1,2 @@
-// A 2-block made standard, by value.
+// Offered: a 2-block made standard, by value.
 pub mod lahqr_schur22;

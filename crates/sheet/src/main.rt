@@ -1,4 +1,4 @@
-// Reads a request from standard input and prints its sheet. All of the work is sheet_text's.
+// Program: reads a request from standard input and prints its sheet. All of the work is sheet_text's.
 ghost use mathlib.Core.Path.{_≡_};
 ghost use Prim.Native.Nat.{_+_};
 ghost use lib.ListN.{length, replicate};

@@ -1,5 +1,4 @@
-// The shifted solvers of the vectors, and what they share with them. A part of `evd`, apart from it so
-// that a check takes half the time: only `evd` calls it.
+// Inside (`evd`): the shifted solvers of the vectors, and what they share with them.
 pub mod block;
 mod dots;
 pub mod solve_cplx;

@@ -1,5 +1,4 @@
-// The four swaps of neighbouring blocks, and a 2-block standardised in place. A part of `schur`, apart
-// from it so that a check takes half the time: only `schur` calls it.
+// Inside (`schur`): the four swaps of neighbouring blocks, and a 2-block standardised in place.
 mod columns;
 mod kernels;
 mod operations;

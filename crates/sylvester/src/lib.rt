@@ -1,2 +1,2 @@
-// The small Sylvester solve, by value.
+// Offered: the small Sylvester solve, by value.
 pub mod lasy2;

@@ -64,7 +64,7 @@ returns-2 c =
       ← f3 .float-of3 .ensures,
       ← f2 .float-of2 .ensures,
       ← f1 .float-of .ensures,
-      ← s .lahqr-schur22 .ensures,
+      ← s .lahqr-schur22 .ensures .0,
       ← v .values-of .ensures,
       eq-eqb _ _ (f1 .before .before .if1 .left),
     )
