@@ -94,7 +94,7 @@ abbrev pub evdFromRealSchur : List ℕ → Outcome
 evdFromRealSchur w = onTwo Call.Vectors w
 
 -- a form of a numbers, and b and k lent for the parts of its values
-abbrev pub valuesIn : List ℕ → ℕ → ℕ → ℕ → Values.Values
+abbrev pub valuesIn : List ℕ → ℕ → ℕ → ℕ → Values.BlockValues
 valuesIn w a b k =
     let n = getD w 3 0 in Values.blockValues binary64 n n (from w 4 a) (record { re = from w (4 + a) b; im = from w (4 + a + b) k })
 
