@@ -183,14 +183,15 @@ fn root_bits(b: u64) -> u64
 pub fn sqrt(x: f64) -> f64
     ensures { λ r. ⌜ r ≡ Root.sqrt binary64 x ⌝ }
 {
-    if x < 0.0 {
-        return 0.0 / 0.0;
-    }
     if x > 0.0 {
         let b = f64::to_bits(x);
         if b < INFINITE {
             return f64::from_bits(root_bits(b));
         }
+        return x;
+    }
+    if x < 0.0 {
+        return 0.0 / 0.0;
     }
     x
 }
