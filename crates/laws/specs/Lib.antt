@@ -1,2 +1,3 @@
 pub mod RootNearest
 pub mod Worked
+pub mod InOrder
