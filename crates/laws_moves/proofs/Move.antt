@@ -41,10 +41,10 @@ up-one f n h c e u l = rw (size-above f n h (c .form) u l)
 
 -- ---- the number x on its way through the others, the row list rs without it
 
-tracks-down : (f : Format) (n h x : ℕ) (a t : List Float) (rs : List ℕ) → h + 1 < n → suc (length rs) ≡ n → Tracks f n a t (putIn x h rs) → Tracks f n a (after f n h t) (putIn x (h + 1) rs)
+tracks-down : (f : Format) (n h x : ℕ) (a t : List Float) (rs : List ℕ) → h + 1 < n → suc (length rs) ≡ n → Tracks f n a t (putIn x h rs) → Tracks f n a (after f n n h t) (putIn x (h + 1) rs)
 tracks-down f n h x a t rs g m k = rw (add-one h, ← put-lower x h rs (omega arith)) (tracks-after f n h a t (putIn x h rs) g k)
 
-tracks-up : (f : Format) (n h x : ℕ) (a t : List Float) (rs : List ℕ) → h + 1 < n → suc (length rs) ≡ n → Tracks f n a t (putIn x (h + 1) rs) → Tracks f n a (after f n h t) (putIn x h rs)
+tracks-up : (f : Format) (n h x : ℕ) (a t : List Float) (rs : List ℕ) → h + 1 < n → suc (length rs) ≡ n → Tracks f n a t (putIn x (h + 1) rs) → Tracks f n a (after f n n h t) (putIn x h rs)
 tracks-up f n h x a t rs g m k = rw (← put-higher x h rs (omega arith)) (tracks-after f n h a t (putIn x (suc h) rs) g (rw add-one at k))
 
 module _ (f : Format) (n goal x : ℕ) (a : List Float) (rs : List ℕ) (fits : suc (length rs) ≡ n) where

@@ -69,24 +69,24 @@ pub record Tracks (f : Format) (n : ℕ) (a t : List Float) (rs : List ℕ) : Ty
 record From (f : Format) (n j i : ℕ) (t : List Float) (rs : List ℕ) : Type 0 where
   source : ℕ
   below : source < n
-  number : entry n (after f n j t) i i ≡ entry n t source source
+  number : entry n (after f n n j t) i i ≡ entry n t source source
   listed : getD (crossAt j rs) i 0 ≡ getD rs source 0
 
 from-lower : (f : Format) (n j : ℕ) (t : List Float) (rs : List ℕ) → length t ≡ n * n → length rs ≡ n → j + 1 < n → From f n j j t rs
 from-lower f n j t rs l m g =
     let x : j ≢ suc j = omega arith in
     let y : j < length rs = omega arith in
-    record { source = j + 1; below = g; number = after-upper f n j t l g; listed = rw (add-one, getD-set-other, getD-set-same) }
+    record { source = j + 1; below = g; number = after-upper f n n j t (omega arith) g l; listed = rw (add-one, getD-set-other, getD-set-same) }
 
 from-upper : (f : Format) (n j : ℕ) (t : List Float) (rs : List ℕ) → length t ≡ n * n → length rs ≡ n → j + 1 < n → From f n j (j + 1) t rs
 from-upper f n j t rs l m g =
     let y : suc j < length (set rs j (getD rs (suc j) 0)) = simp length-set (omega arith) in
-    record { source = j; below = omega arith; number = after-lower f n j t l g; listed = rw (add-one, getD-set-same) }
+    record { source = j; below = omega arith; number = after-lower f n n j t (omega arith) g l; listed = rw (add-one, getD-set-same) }
 
 from-itself : (f : Format) (n j i : ℕ) (t : List Float) (rs : List ℕ) → j + 1 < n → i < n → i ≢ j → i ≢ j + 1 → From f n j i t rs
 from-itself f n j i t rs g h p q =
     let x : i ≢ suc j = omega arith in
-    record { source = i; below = h; number = after-else f n j i i t (omega arith) h g (λ e _. p e) (λ e _. q e); listed = rw (getD-set-other, getD-set-other) }
+    record { source = i; below = h; number = after-else f n n j t (omega arith) g i i (omega arith) h (λ e _. p e) (λ e _. q e); listed = rw (getD-set-other, getD-set-other) }
 
 from : (f : Format) (n j i : ℕ) (t : List Float) (rs : List ℕ) → length t ≡ n * n → length rs ≡ n → j + 1 < n → i < n → From f n j i t rs
 from f n j i t rs l m g h =
@@ -95,7 +95,7 @@ from f n j i t rs l m g h =
       | no p ↦ elim (ℕ-discrete i (j + 1)) [ yes q ↦ rw q (from-upper f n j t rs l m g) | no q ↦ from-itself f n j i t rs g h p q ]
     ]
 
-pub tracks-after : (f : Format) (n j : ℕ) (a t : List Float) (rs : List ℕ) → j + 1 < n → Tracks f n a t rs → Tracks f n a (after f n j t) (crossAt j rs)
+pub tracks-after : (f : Format) (n j : ℕ) (a t : List Float) (rs : List ℕ) → j + 1 < n → Tracks f n a t rs → Tracks f n a (after f n n j t) (crossAt j rs)
 tracks-after f n j a t rs g k =
     record {
       upper = upper-after f n j t g (k .upper);

@@ -16,58 +16,59 @@ use Rattle.laws_moves.proofs.Places.{apart, not-above, rotateRun-length
 
 -- ---- what is rotated lies above the diagonal
 
-onForm-length : (f : Format) (n j : ℕ) (v : Rotation) (t : List Float) → length (onForm f n n (j + 2) j (rotates v j (j + 1)) t) ≡ length t
+onForm-length : (f : Format) (ld n j : ℕ) (v : Rotation) (t : List Float) → length (onForm f ld n (j + 2) j (rotates v j (j + 1)) t) ≡ length t
 unfolding onForm onColumns onRows
-onForm-length f n j v t = rotateRun-length _ _ _ _ _ _ _ ∙ rotateRun-length _ _ _ _ _ _ _
+onForm-length f ld n j v t = rotateRun-length _ _ _ _ _ _ _ ∙ rotateRun-length _ _ _ _ _ _ _
 
-onForm-else : (f : Format) (n j r c : ℕ) (v : Rotation) (t : List Float) → c ≤ r → r < n → j + 1 < n
-    → entry n (onForm f n n (j + 2) j (rotates v j (j + 1)) t) r c ≡ entry n t r c
+onForm-else : (f : Format) (ld n j r c : ℕ) (v : Rotation) (t : List Float) → n ≤ ld → c ≤ r → r < n → j + 1 < n
+    → entry ld (onForm f ld n (j + 2) j (rotates v j (j + 1)) t) r c ≡ entry ld t r c
 unfolding onForm onColumns onRows
-onForm-else f n j r c v t b h g =
-    rotateRun-else f v 1 j (place n 0 j) (place n 0 (j + 1)) (place n r c) _
-    (λ i a e. not-above n r c i j b h a (omega arith) (omega arith))
-    (λ i a e. not-above n r c i (j + 1) b h (omega arith) (omega arith) (omega arith))
-    ∙ rotateRun-else f v n (n - (j + 2)) (place n j (j + 2)) (place n (j + 1) (j + 2)) (place n r c) t
-    (λ i a e. not-above n r c j (j + 2 + i) b h (omega arith) (omega arith) (omega arith))
-    (λ i a e. not-above n r c (j + 1) (j + 2 + i) b h (omega arith) (omega arith) (omega arith))
+onForm-else f ld n j r c v t w b h g =
+    rotateRun-else f v 1 j (place ld 0 j) (place ld 0 (j + 1)) (place ld r c) _
+    (λ i a e. not-above ld r c i j b (omega arith) a (omega arith) (omega arith))
+    (λ i a e. not-above ld r c i (j + 1) b (omega arith) (omega arith) (omega arith) (omega arith))
+    ∙ rotateRun-else f v ld (n - (j + 2)) (place ld j (j + 2)) (place ld (j + 1) (j + 2)) (place ld r c) t
+    (λ i a e. not-above ld r c j (j + 2 + i) b (omega arith) (omega arith) (omega arith) (omega arith))
+    (λ i a e. not-above ld r c (j + 1) (j + 2 + i) b (omega arith) (omega arith) (omega arith) (omega arith))
 
 -- ---- the exchange
 
-abbrev pub after : Format → ℕ → ℕ → List Float → List Float
-after f n j t = exchange f n n j 1 1 t .form
+abbrev pub after : Format → ℕ → ℕ → ℕ → List Float → List Float
+after f ld n j t = exchange f ld n j 1 1 t .form
 
 -- the two numbers put down
 abbrev crossed : ℕ → ℕ → List Float → List Float
-crossed n j t = put n j j (entry n t (j + 1) (j + 1)) (put n (j + 1) (j + 1) (entry n t j j) t)
+crossed ld j t = put ld j j (entry ld t (j + 1) (j + 1)) (put ld (j + 1) (j + 1) (entry ld t j j) t)
 
-after-is : (f : Format) (n j : ℕ) (t : List Float) → after f n j t ≡ onForm f n n (j + 2) j (rotates (rotation11 f n t j) j (j + 1)) (crossed n j t)
+after-is : (f : Format) (ld n j : ℕ) (t : List Float) → after f ld n j t ≡ onForm f ld n (j + 2) j (rotates (rotation11 f ld t j) j (j + 1)) (crossed ld j t)
 unfolding exchange exchangeBy exchangeWhole standardiseIf andThen swapOf swap11
-after-is f n j t = refl
+after-is f ld n j t = refl
 
-pub after-length : (f : Format) (n j : ℕ) (t : List Float) → length (after f n j t) ≡ length t
-after-length f n j t = ap length (after-is f n j t) ∙ onForm-length f n j (rotation11 f n t j) (crossed n j t) ∙ simp length-set
+pub after-length : (f : Format) (ld n j : ℕ) (t : List Float) → length (after f ld n j t) ≡ length t
+after-length f ld n j t = ap length (after-is f ld n j t) ∙ onForm-length f ld n j (rotation11 f ld t j) (crossed ld j t) ∙ simp length-set
 
-inside : (n i : ℕ) (t : List Float) → length t ≡ n * n → i < n → place n i i < length t
-inside n i t l h = let m : n * suc i ≤ n * n = mul-le-mul-left n h in omega arith
+inside : (ld n i : ℕ) (t : List Float) → length t ≡ ld * n → n ≤ ld → i < n → place ld i i < length t
+inside ld n i t l w h = let m : ld * suc i ≤ ld * n = mul-le-mul-left ld h in omega arith
 
 -- on and below the diagonal
-after-crossed : (f : Format) (n j r c : ℕ) (t : List Float) → c ≤ r → r < n → j + 1 < n → entry n (after f n j t) r c ≡ entry n (crossed n j t) r c
-after-crossed f n j r c t b h g = ap (λ (s : List Float). entry n s r c) (after-is f n j t) ∙ onForm-else f n j r c (rotation11 f n t j) (crossed n j t) b h g
+module _ (f : Format) (ld n j : ℕ) (t : List Float) (w : n ≤ ld) (g : j + 1 < n) where
+  after-crossed : (r c : ℕ) → c ≤ r → r < n → entry ld (after f ld n j t) r c ≡ entry ld (crossed ld j t) r c
+  after-crossed r c b h = ap (λ (s : List Float). entry ld s r c) (after-is f ld n j t) ∙ onForm-else f ld n j r c (rotation11 f ld t j) (crossed ld j t) w b h g
 
-pub after-else : (f : Format) (n j r c : ℕ) (t : List Float) → c ≤ r → r < n → j + 1 < n → (r ≡ j → c ≡ j → ⊥) → (r ≡ j + 1 → c ≡ j + 1 → ⊥) → entry n (after f n j t) r c ≡ entry n t r c
-after-else f n j r c t b h g u v =
-    let x = apart n r c j j h (omega arith) u in
-    let y = apart n r c (j + 1) (j + 1) h g v in
-    after-crossed f n j r c t b h g ∙ rw (getD-set-other, getD-set-other)
+  pub after-else : (r c : ℕ) → c ≤ r → r < n → (r ≡ j → c ≡ j → ⊥) → (r ≡ j + 1 → c ≡ j + 1 → ⊥) → entry ld (after f ld n j t) r c ≡ entry ld t r c
+  after-else r c b h u v =
+      let x = apart ld r c j j (omega arith) (omega arith) u in
+      let y = apart ld r c (j + 1) (j + 1) (omega arith) (omega arith) v in
+      after-crossed r c b h ∙ rw (getD-set-other, getD-set-other)
 
-pub after-upper : (f : Format) (n j : ℕ) (t : List Float) → length t ≡ n * n → j + 1 < n → entry n (after f n j t) j j ≡ entry n t (j + 1) (j + 1)
-after-upper f n j t l g =
-    let s = put n (j + 1) (j + 1) (entry n t j j) t in
-    after-crossed f n j j j t (omega arith) (omega arith) g
-    ∙ getD-set-same s (place n j j) (entry n t (j + 1) (j + 1)) nan (inside n j s (simp length-set l) (omega arith))
+  pub after-upper : length t ≡ ld * n → entry ld (after f ld n j t) j j ≡ entry ld t (j + 1) (j + 1)
+  after-upper l =
+      let s = put ld (j + 1) (j + 1) (entry ld t j j) t in
+      after-crossed j j (omega arith) (omega arith)
+      ∙ getD-set-same s (place ld j j) (entry ld t (j + 1) (j + 1)) nan (inside ld n j s (simp length-set l) w (omega arith))
 
-pub after-lower : (f : Format) (n j : ℕ) (t : List Float) → length t ≡ n * n → j + 1 < n → entry n (after f n j t) (j + 1) (j + 1) ≡ entry n t j j
-after-lower f n j t l g =
-    let x = apart n (j + 1) (j + 1) j j g (omega arith) (λ e. omega arith) in
-    after-crossed f n j (j + 1) (j + 1) t (omega arith) g g
-    ∙ rw getD-set-other (getD-set-same t (place n (j + 1) (j + 1)) (entry n t j j) nan (inside n (j + 1) t l g))
+  pub after-lower : length t ≡ ld * n → entry ld (after f ld n j t) (j + 1) (j + 1) ≡ entry ld t j j
+  after-lower l =
+      let x = apart ld (j + 1) (j + 1) j j (omega arith) (omega arith) (λ e. omega arith) in
+      after-crossed (j + 1) (j + 1) (omega arith) g
+      ∙ rw getD-set-other (getD-set-same t (place ld (j + 1) (j + 1)) (entry ld t j j) nan (inside ld n (j + 1) t l w g))

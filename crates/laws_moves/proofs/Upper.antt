@@ -72,9 +72,9 @@ upper f n t h = record { rows = l .0; size = eqb-true _ _ (not-false _ (l .1)); 
 
 -- ---- the exchange of two rows
 
-pub upper-after : (f : Format) (n j : ℕ) (t : List Float) → j + 1 < n → Upper f n t → Upper f n (after f n j t)
+pub upper-after : (f : Format) (n j : ℕ) (t : List Float) → j + 1 < n → Upper f n t → Upper f n (after f n n j t)
 upper-after f n j t g u =
-    record { rows = u .rows; size = after-length f n j t ∙ u .size; below = λ i k c r. ap (λ (x : Float). eq x (zeroOf f)) (after-else f n j i k t (omega arith) r g (λ p q. omega arith) (λ p q. omega arith)) ∙ u .below i k c r }
+    record { rows = u .rows; size = after-length f n n j t ∙ u .size; below = λ i k c r. ap (λ (x : Float). eq x (zeroOf f)) (after-else f n n j t (omega arith) g i k (omega arith) r (λ p q. omega arith) (λ p q. omega arith)) ∙ u .below i k c r }
 
 -- ---- every block is one row
 
