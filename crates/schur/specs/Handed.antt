@@ -1,5 +1,5 @@
--- What is handed over with `reorder_schur`: the rule on lists of moves, and dtrexc's choice, both about the very `moveCall` that its contract cites.
--- They are proved in laws_moves and laws_dtrexc, on which this crate rests, so that the move is not built without them. Definitions only: proofs/Handed.antt has the proof. Assumes nothing.
+-- What is handed over with `reorder_schur`: the rule on lists of moves, and dtrexc's choice, both about the very `moveCall` that its contract cites; and with `schur_swap` how many swaps the `exchangeCall` of its contract counts.
+-- They are proved in laws_moves, laws_dtrexc and laws_exchange, on which this crate rests, so that move and exchange are not built without them. Definitions only: proofs/Handed.antt has the proof. Assumes nothing.
 use Prim.Native.Nat.{ℕ}
 use mathlib.Core.Path.{_≡_}
 use mathlib.Core.List.{List}
@@ -8,6 +8,7 @@ use Rattle.model.specs.Move.{moveLine, moved, move, moveCall}
 use Rattle.laws_moves.specs.Lists.{ListsOfMoves}
 use Rattle.laws_dtrexc.specs.Choice.{lapack, SameChoice}
 use Rattle.laws_dtrexc.specs.Zeros.{ChoiceReadsZeros, DtrexcSameZeros}
+use Rattle.laws_exchange.specs.Counts.{CountsOfExchange}
 
 -- a call that no line turns away is the move whose exchanges are dtrexc's
 pub record Chosen (f : Format) (ld n : ℕ) (t u : List Float) (from to : ℕ) : Type 0 where
@@ -25,3 +26,5 @@ pub record HandedOver : Type 1 where
   -- of the move that such a call is: each exchange is chosen by the zeros at that moment, and as dtrexc on any form with zeros at the same places chooses it
   pub zeros : ChoiceReadsZeros
   pub sameZeros : DtrexcSameZeros
+  -- one to four swaps, of each accepted `exchangeCall`
+  pub counts : CountsOfExchange

@@ -1,3 +1,4 @@
 pub mod View
 pub mod Stands
 pub mod Handed
+pub mod Todo

@@ -9,6 +9,8 @@ ghost use Rattle.model.specs.Swaps as Swaps;
 ghost use Rattle.model.specs.Exchange as Exchange;
 ghost use Rattle.form.specs.Run.{Sized, Beside, Rows};
 ghost use Rattle.swaps.specs.Done.{Done, Step};
+ghost use Rattle.laws_exchange.specs.Loop.{small};
+ghost use Rattle.schur.specs.Todo.{seen};
 use form::places::get;
 use swaps::standardise::standardise;
 use swaps::swap_11::schur_swap_11;
@@ -20,6 +22,20 @@ use swaps::swap_22::schur_swap_22;
 pub struct Counts {
     pub swaps: usize,
     pub declined: usize,
+}
+
+// A small exchange still to do: the n1 rows from row `row` on with the n2 below them.
+pub struct Small {
+    pub row: usize,
+    pub n1: usize,
+    pub n2: usize,
+}
+
+// One such.
+fn small_at(row: usize, n1: usize, n2: usize) -> Small
+    ensures { λ r. ⌜ seen r ≡ small row n1 n2 ⌝ }
+{
+    Small { row, n1, n2 }
 }
 
 // One swap of the n1 rows from row j on with the n2 below them.
@@ -84,71 +100,39 @@ fn apart(t: &[f64], n: usize, size: usize, j: usize) -> bool
     get(t, n, j + 1, j) == 0.0
 }
 
-// The counts of two exchanges.
-fn both(a: Counts, b: Counts) -> Counts
-    requires { ⌜ (a .swaps ≤ 4) × (b .swaps ≤ 4) × (a .declined ≤ 4) × (b .declined ≤ 4) ⌝ }
-    ensures { λ r. ⌜ (r .swaps ≡ a .swaps + b .swaps) × (r .declined ≡ a .declined + b .declined) ⌝ }
-{
-    Counts {
-        swaps: a.swaps + b.swaps,
-        declined: a.declined + b.declined,
-    }
-}
-
-// The exchange where there are at most three rows in all. Two rows with a zero inside go one by one.
-fn exchange_three_rows(
-    t: &mut [f64],
-    u: &mut [f64],
-    n: usize,
-    j: usize,
-    n1: usize,
-    n2: usize,
-) -> Counts
-    requires { ⌜ Sized n (now t) × Beside n (now u) × Rows n j n1 n2 × (n1 + n2 ≤ 3) ⌝ }
-    ensures { λ r. ⌜ Step n (now (u .entry)) (now (t .exit)) (now (u .exit)) (r .swaps) (r .declined) (Exchange.exchange binary64 n n j n1 n2 (now (t .entry))) × (r .swaps ≤ 2) × (r .declined ≤ 2) ⌝ }
-{
-    if apart(&*t, n, n1, j) {
-        let a = exchange_whole(&mut *t, &mut *u, n, j + 1, 1, n2);
-        let b = exchange_whole(&mut *t, &mut *u, n, j, 1, n2);
-        return both(a, b);
-    }
-    if apart(&*t, n, n2, j + n1) {
-        let a = exchange_whole(&mut *t, &mut *u, n, j, n1, 1);
-        let b = exchange_whole(&mut *t, &mut *u, n, j + 1, n1, 1);
-        return both(a, b);
-    }
-    exchange_whole(&mut *t, &mut *u, n, j, n1, n2)
-}
-
-// The exchange of the n1 rows from row j on with the n2 below them. Two rows with a zero inside go
-// one by one: of the first two the lower first, of the second two the upper first.
+// The exchange of the n1 rows from row j on with the n2 below them, in a loop over the small
+// exchanges still to do, `left` of them, the next one last. Two rows that have a zero inside when
+// their turn comes are parted: of the first two the lower goes first, of the second two the upper.
 pub fn exchange(t: &mut [f64], u: &mut [f64], n: usize, j: usize, n1: usize, n2: usize) -> Counts
     requires { ⌜ Sized n (now t) × Beside n (now u) × Rows n j n1 n2 ⌝ }
     ensures { λ r. ⌜ Step n (now (u .entry)) (now (t .exit)) (now (u .exit)) (r .swaps) (r .declined) (Exchange.exchange binary64 n n j n1 n2 (now (t .entry))) × (r .swaps ≤ 4) × (r .declined ≤ 4) ⌝ }
 {
-    if apart(&*t, n, n1, j) {
-        let a = exchange_three_rows(&mut *t, &mut *u, n, j + 1, 1, n2);
-        let b = exchange_three_rows(&mut *t, &mut *u, n, j, 1, n2);
-        return both(a, b);
+    let mut todo = [small_at(j, n1, n2); 3];
+    let mut left = 1;
+    let mut swaps = 0;
+    let mut declined = 0;
+    while left > 0 {
+        let s = todo[left - 1];
+        if apart(&*t, n, s.n1, s.row) {
+            let lower = small_at(s.row + 1, 1, s.n2);
+            let upper = small_at(s.row, 1, s.n2);
+            todo[left - 1] = upper;
+            todo[left] = lower;
+            left += 1;
+        } else if apart(&*t, n, s.n2, s.row + s.n1) {
+            let upper = small_at(s.row, s.n1, 1);
+            let lower = small_at(s.row + 1, s.n1, 1);
+            todo[left - 1] = lower;
+            todo[left] = upper;
+            left += 1;
+        } else {
+            let c = exchange_whole(&mut *t, &mut *u, n, s.row, s.n1, s.n2);
+            swaps += c.swaps;
+            declined += c.declined;
+            left -= 1;
+        }
     }
-    if apart(&*t, n, n2, j + n1) {
-        let a = exchange_three_rows(&mut *t, &mut *u, n, j, n1, 1);
-        let b = exchange_three_rows(&mut *t, &mut *u, n, j + 1, n1, 1);
-        return both(a, b);
-    }
-    exchange_whole(&mut *t, &mut *u, n, j, n1, n2)
-}
-
-// The exchange of two single rows.
-fn exchange_two_rows(t: &mut [f64], u: &mut [f64], n: usize, j: usize) -> Counts
-    requires { ⌜ Sized n (now t) × Beside n (now u) × (j + 2 ≤ n) ⌝ }
-    ensures { λ r. ⌜ Step n (now (u .entry)) (now (t .exit)) (now (u .exit)) (r .swaps) (r .declined) (Exchange.exchange binary64 n n j 1 1 (now (t .entry))) × (r .swaps ≡ 1) × (r .declined ≡ 0) ⌝ }
-{
-    schur_swap_11(&mut *t, &mut *u, n, j);
-    Counts {
-        swaps: 1,
-        declined: 0,
-    }
+    Counts { swaps, declined }
 }
 
 // The same exchange: two single rows straight by their swap, all else as above.
@@ -164,7 +148,11 @@ pub fn exchange_straight(
     ensures { λ r. ⌜ Step n (now (u .entry)) (now (t .exit)) (now (u .exit)) (r .swaps) (r .declined) (Exchange.exchange binary64 n n j n1 n2 (now (t .entry))) × (r .swaps ≤ 4) × (r .declined ≤ 4) ⌝ }
 {
     if n1 + n2 == 2 {
-        return exchange_two_rows(&mut *t, &mut *u, n, j);
+        schur_swap_11(&mut *t, &mut *u, n, j);
+        return Counts {
+            swaps: 1,
+            declined: 0,
+        };
     }
     exchange(&mut *t, &mut *u, n, j, n1, n2)
 }

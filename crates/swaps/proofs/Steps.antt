@@ -1,14 +1,12 @@
 -- One step after another is the step of both. Assumes nothing.
-use mathlib.Core.Path.{_≡_, refl, sym, ap, _∙_, subst}
+use mathlib.Core.Path.{_≡_, refl, sym, ap, _∙_}
 use Prim.Native.Nat.{ℕ, _+_}
-use native.Mathlib.Nat.{add-zero, zero-add}
-use mathlib.Core.Bool.{Bool, true, false, cond}
 use mathlib.Core.List.{List, [], _∷_, _++_}
 use lib.ListN.{length}
 use lib.Ieee.{Float, Format, binary64}
 use Rattle.model.specs.Columns.{Operation, onFactor, onColumns}
 use Rattle.model.specs.Exchange.{factorRows}
-use Rattle.model.specs.Swaps.{Change, swapsOf, declinedOf, declining, andThen, windowAt, solutionOf, reflectors4, declines, swap22By, swap22}
+use Rattle.model.specs.Swaps.{Change, swapsOf, declinedOf, andThen}
 use Rattle.laws.proofs.Runs.{swaps-then, declined-then}
 use Rattle.swaps.specs.Done.{Done, Step}
 
@@ -43,13 +41,3 @@ step-then {c = c} next a e b =
       swaps = rw (a .swaps, b .swaps) (ap (λ (t : List Float). swapsOf c + swapsOf (next t)) (a .done .form)) ∙ sym (swaps-then c next);
       declined = rw (a .declined, b .declined) (ap (λ (t : List Float). declinedOf c + declinedOf (next t)) (a .done .form)) ∙ sym (declined-then c next);
     }
-
--- 2 against 2 is one run, declined or not
-pub one-swap : (f : Format) (ld n j : ℕ) (t : List Float) → swapsOf (swap22 f ld n j t) ≡ 1
-unfolding swap22 swap22By
-one-swap f ld n j t = go (declines f (reflectors4 f (solutionOf f (windowAt ld t j))) (windowAt ld t j))
-  where
-    go : (b : Bool)
-        → swapsOf (cond b (declining j 2 2 t) (swap22By f ld n j (reflectors4 f (solutionOf f (windowAt ld t j))) t)) ≡ 1
-    go true = refl
-    go false = refl

@@ -1,8 +1,10 @@
 -- `schur::exchange::exchange_straight` meets its contract. Assumes nothing.
 use mathlib.Core.Path.{_≡_}
-use Prim.Native.Nat.{ℕ, _+_, _≤_}
+use Prim.Native.Nat.{ℕ, _+_}
 use native.Mathlib.Omega.{arith}
+use lib.Dec.{lit≤}
 use Rattle.form.specs.Run.{Rows}
+use Rattle.schur.proofs.Exchanges.{single-step}
 use borrow.Author.Needs.{needs}
 use Rattle.schur.proofs.exchange.exchange_straight.Statement.{statement}
 use Rattle.schur.proofs.exchange.exchange_straight.Tie as tie
@@ -16,8 +18,8 @@ second r e = let a = r .one1 in let b = r .one2 in omega arith
 add-if1 : tie.Need-add-if1
 add-if1 c = search needs
 
-exchange-two-rows-requires : tie.Need-exchange-two-rows-requires
-exchange-two-rows-requires c κs = search needs
+schur-swap-11-requires : tie.Need-schur-swap-11-requires
+schur-swap-11-requires c κs = search needs
 
 same-length : tie.Need-same-length
 same-length c = search needs
@@ -27,10 +29,10 @@ same-length-2 c = search needs
 
 returns : tie.Need-returns
 returns c =
-    let x = c .before .before .before .before .exchange-two-rows .ensures in
+    let x = c .before .before .before .before .schur-swap-11 in
     let i = c .before .before .before .before .before .before .before in
     let r = i .before .before .before .pre .2 in
-    rw (first r (i .if1 .taken), second r (i .if1 .taken)) (x .0, omega (arith, x .1), omega (arith, x .2))
+    rw (first r (i .if1 .taken), second r (i .if1 .taken)) (single-step _ _ _ (x .ensures) (x .kept .1 .0), lit≤ tt, lit≤ tt)
 
 exchange-requires : tie.Need-exchange-requires
 exchange-requires c κs = search needs
@@ -49,7 +51,7 @@ exchange-straight-spec =
     tie.close
     (tie.spec
     add-if1
-    exchange-two-rows-requires
+    schur-swap-11-requires
     same-length
     same-length-2
     returns

@@ -1,5 +1,5 @@
 -- `schur::exchange::swap_of` meets its contract. Assumes nothing.
-use Rattle.swaps.proofs.Steps.{one-swap}
+use Rattle.laws_exchange.proofs.Counts.{pair-counts}
 use Rattle.model.specs.Swaps.{declinesIn, swapOf, swap11, swap12, swap21}
 use mathlib.Core.Path.{refl, sym}
 use lib.Dec.{lit≤}
@@ -74,7 +74,7 @@ returns-4 c =
     let a = c .before .before .before .before in
     let b = a .before .before .before in
     let d = b .before in
-    rw (ne-eqb _ _ (d .if1 .left), ne-eqb _ _ (b .if3 .left)) (record { done = a .schur-swap-22 .ensures .0; swaps = sym (one-swap _ _ _ _ _); declined = a .schur-swap-22 .ensures .1 }, refl, a .schur-swap-22 .ensures .2)
+    rw (ne-eqb _ _ (d .if1 .left), ne-eqb _ _ (b .if3 .left)) (record { done = a .schur-swap-22 .ensures .0; swaps = sym (pair-counts _ _ _ _ _); declined = a .schur-swap-22 .ensures .1 }, refl, a .schur-swap-22 .ensures .2)
 
 pub swap-of-spec : {M : Type 1} → statement M
 swap-of-spec =
