@@ -33,6 +33,11 @@ pub fn picked(call: &'static str) -> Vec<Record> {
     }
 }
 
+/// Cases that follow the random ones, so that the lines before them keep their indices.
+pub fn later(call: &'static str) -> Vec<Record> {
+    if call == "schur_swap" { counted().into_iter().map(|(case, _)| case).collect() } else { Vec::new() }
+}
+
 // ---- forms
 
 /// A form whose blocks have the sizes: each 2-block a complex pair, no two diagonal numbers of
@@ -342,6 +347,28 @@ fn exchanges() -> Vec<Record> {
     cases
 }
 
+/// Exchanges of two rows with two below them, with the swaps that they count: both pairs hold; the
+/// first is parted, then the second; one of them parted and the other splits on the way; both
+/// parted. A pair that splits has the rows (1, 2) and (3, 4), and so two real values.
+fn counted() -> Vec<(Record, usize)> {
+    let splitting = |sizes: &[usize], i: usize| {
+        let mut t = form(sizes);
+        for (p, x) in [0, 1, 4, 5].iter().zip([1.0, 3.0, 2.0, 4.0]) {
+            t[5 * i + p] = x;
+        }
+        t
+    };
+    let forms = [
+        (form(&[2, 2]), 1),
+        (form(&[1, 1, 2]), 2),
+        (form(&[2, 1, 1]), 2),
+        (splitting(&[1, 1, 2], 2), 3),
+        (splitting(&[2, 1, 1], 0), 3),
+        (form(&[1, 1, 1, 1]), 4),
+    ];
+    forms.map(|(t, swaps)| (an_exchange(t, unit(4), 0, 2, 2), swaps)).into_iter().collect()
+}
+
 // ---- vectors and values
 
 fn of_form(call: &'static str, t: Vec<f64>) -> Record {
@@ -462,6 +489,14 @@ mod tests {
     fn declines_are_near_the_bound() {
         let declined: Vec<usize> = near().iter().map(|case| calls::answer(case).0.n("declined")).collect();
         assert_eq!(declined, [1, 1, 1, 0, 0, 0]);
+    }
+
+    #[test]
+    fn exchanges_count_as_chosen() {
+        for (case, swaps) in counted() {
+            let (answer, _) = calls::answer(&case);
+            assert_eq!((answer.n("answer"), answer.n("swaps")), (0, swaps), "{case}");
+        }
     }
 
     #[test]

@@ -1,4 +1,5 @@
-//! Counts over many cases: how many, how many of each answer, and how many split or declined.
+//! Counts over many cases: how many, how many of each answer, how many split or declined, and of
+//! exchanges how many counted so many swaps.
 
 use crate::note::Notes;
 use crate::record::Record;
@@ -12,6 +13,8 @@ pub struct Tally {
     pub answers: BTreeMap<usize, u64>,
     pub split: u64,
     pub declined: u64,
+    /// Accepted exchanges by their swaps.
+    pub exchanges: BTreeMap<usize, u64>,
 }
 
 impl Tally {
@@ -21,6 +24,9 @@ impl Tally {
         self.declined += u64::from(notes.declined > 0);
         if let Some(number) = number_of(answer) {
             *self.answers.entry(number).or_default() += 1;
+            if answer.call == "schur_swap" && number == 0 {
+                *self.exchanges.entry(notes.swaps).or_default() += 1;
+            }
         }
     }
 }
@@ -43,10 +49,11 @@ impl fmt::Display for Tally {
         if self.split + self.declined > 0 {
             write!(f, ", {} with a split, {} with a decline", self.split, self.declined)?;
         }
-        if !self.answers.is_empty() {
-            let answers: Vec<String> =
-                self.answers.iter().map(|(number, count)| format!("{number}: {count}")).collect();
-            write!(f, ", answers {{{}}}", answers.join(", "))?;
+        for (name, counts) in [("answers", &self.answers), ("swaps", &self.exchanges)] {
+            if !counts.is_empty() {
+                let counts: Vec<String> = counts.iter().map(|(number, count)| format!("{number}: {count}")).collect();
+                write!(f, ", {name} {{{}}}", counts.join(", "))?;
+            }
         }
         Ok(())
     }

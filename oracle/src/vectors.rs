@@ -7,6 +7,7 @@ use crate::fault;
 use crate::generate::floats::{EDGES, PATTERNS};
 use crate::generate::{self, USUAL};
 use crate::picked::picked;
+use crate::picked_forms::later;
 use crate::record::{Kind, Record, Value, find};
 use std::io::{self, Write};
 
@@ -77,7 +78,7 @@ pub fn write(names: &[&str], extent: &Extent, out: &mut impl Write) -> io::Resul
 }
 
 /// Every pattern, or every pattern against every pattern, lists of every length, or cases chosen one
-/// by one; then random cases.
+/// by one; then random cases, and those that came later.
 fn cases(name: &str, random: u64, extent: &Extent) -> Vec<Record> {
     let call = find(name).expect("a stored call");
     let mut cases = match call.given {
@@ -102,6 +103,7 @@ fn cases(name: &str, random: u64, extent: &Extent) -> Vec<Record> {
     };
     let drawn = (0..).filter_map(|index| generate::stored(call.name, SEED, index, USUAL));
     cases.extend(drawn.filter(storable).take(random.min(extent.random) as usize));
+    cases.extend(later(call.name));
     cases
 }
 

@@ -150,4 +150,29 @@ mod tests {
         assert_eq!(lines("reorder_schur"), [0, 2, 3, 4, 5, 6, 7]);
         assert_eq!(lines("evd_from_real_schur"), [0, 2, 3, 4, 5, 6]);
     }
+
+    /// What is proved of the definition holds of the Rust: an accepted exchange counts one to four
+    /// swaps, four exactly when both sizes are 2, each with a zero inside. All of them occur, two and
+    /// three with either pair parted.
+    #[test]
+    fn exchanges_count_one_to_four() {
+        let mut seen = std::collections::BTreeSet::new();
+        for index in 0..40_000 {
+            let case = case("schur_swap", 5, index, USUAL);
+            let (answer, _) = calls::answer(&case);
+            if answer.n("answer") != 0 {
+                continue;
+            }
+            let (n, j0, n1, n2) = (case.n("n"), case.n("j0"), case.n("n1"), case.n("n2"));
+            let parted = |size: usize, j: usize| size == 2 && case.l("t")[j + 1 + n * j] == 0.0;
+            let (first, second) = (parted(n1, j0), parted(n2, j0 + n1));
+            let swaps = answer.n("swaps");
+            assert!((1..=4).contains(&swaps), "{case}");
+            assert_eq!(swaps == 4, first && second, "{case}");
+            seen.insert((swaps, first, second));
+        }
+        let (no, yes) = (false, true);
+        let kinds = [(1, no, no), (2, no, yes), (2, yes, no), (3, no, yes), (3, yes, no), (4, yes, yes)];
+        assert_eq!(seen.into_iter().collect::<Vec<_>>(), kinds);
+    }
 }
