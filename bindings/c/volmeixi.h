@@ -95,7 +95,8 @@ size_t vx_reorder_schur(size_t n, double *t, size_t t_len, double *u, size_t u_l
                         size_t to, size_t *landed, size_t *swaps, size_t *declined);
 
 /* Exchanges the n1 rows from row j0 on with the n2 rows below them. u as in vx_reorder_schur.
- * Results: the number of swaps; how many of these declined.
+ * Results: the number of swaps, 1 to 4 (4 exactly when n1 and n2 are 2, each with a zero inside);
+ * how many of these declined.
  * Gives 0, 2, 3, 4 (u_len), 5, 6, 7 (j0), 8, 9 or 10. */
 size_t vx_schur_swap(size_t n, double *t, size_t t_len, double *u, size_t u_len, size_t j0,
                      size_t n1, size_t n2, size_t *swaps, size_t *declined);

@@ -117,6 +117,21 @@ class Worked(unittest.TestCase):
         self.assertEqual(vx.schur_swap(t, None, 1, 1, 1), vx.Exchanged(swaps=1, declined=0))
         self.assertEqual(t, diagonal(1, 3, 2))
 
+    def test_exchanges_count_one_to_four_swaps(self):
+        def two_pairs(first, second):
+            """Rows 0, 1 and rows 2, 3 of a form of four, each given by its rows."""
+            (a, b), (c, d) = first
+            (e, f), (g, h) = second
+            return floats([a, c, 0, 0, b, d, 0, 0, 1, 2, e, g, 3, 4, f, h])
+
+        holds, firm = ((5, 2), (-1, 5)), ((8, 3), (-2, 8))
+        parted, splits = ((7, 1), (0, 9)), ((1, 2), (3, 4))
+        counts = [(holds, firm, 1), (parted, firm, 2), (holds, parted, 2)]
+        counts += [(parted, splits, 3), (splits, parted, 3), (parted, parted, 4)]
+        for first, second, swaps in counts:
+            t = two_pairs(first, second)
+            self.assertEqual(vx.schur_swap(t, None, 0, 2, 2), vx.Exchanged(swaps=swaps, declined=0))
+
     def test_moves_refused(self):
         def move(from_, to):
             return lambda t, u: vx.reorder_schur(t, u, from_, to)

@@ -339,7 +339,10 @@ def reorder_schur(t, u, from_, to):
 
 
 def schur_swap(t, u, j0, n1, n2):
-    """Exchanges the n1 rows from row j0 on with the n2 rows below them. Gives Exchanged."""
+    """Exchanges the n1 rows from row j0 on with the n2 rows below them. Gives Exchanged.
+
+    swaps is 1 to 4, and 4 exactly when n1 and n2 are 2, each with a zero inside.
+    """
     n, t, u = _form_and_factor(t, u)
     return Exchanged(*_several("schur_swap", n, t, u, _size(j0), _size(n1), _size(n2), count=2, kind=_SIZE))
 

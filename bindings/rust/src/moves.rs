@@ -65,7 +65,8 @@ pub fn reorder_schur(n: usize, t: &mut [f64], u: Option<&mut [f64]>, from: usize
 }
 
 /// Exchanges the n1 rows of the form t from row j0 on with the n2 rows below them; the factor is as
-/// in [`reorder_schur`].
+/// in [`reorder_schur`]. Swaps are 1 to 4, and 4 exactly when n1 and n2 are 2, each with a zero
+/// inside.
 ///
 /// Refused by what refuses a move (`Position` is j0's), then [`Refusal::BlockSize`],
 /// [`PastEnd`](Refusal::PastEnd), [`Across`](Refusal::Across).
