@@ -57,6 +57,7 @@ static int untouched(void)
 
 static const double zeros[MOST];
 static const double one_two_three[9] = {1, 0, 0, 0, 2, 0, 0, 0, 3};
+static const double one_to_four[16] = {1, 0, 0, 0, 0, 2, 0, 0, 0, 0, 3, 0, 0, 0, 0, 4};
 static const double turn[4] = {0, -1, 1, 0}; /* the 2-block of rows (0, 1) and (-1, 0) */
 
 /* Two 2-blocks with equal values and other scales, whose swap declines. */
@@ -225,6 +226,11 @@ static void exchanges(void)
     CHECK(vx_schur_swap(3, t, 9, NULL, 0, 1, 1, 1, &swaps, &declined) == VX_DONE);
     CHECK(t[0] == 1 && t[4] == 3 && t[8] == 2);
     CHECK(swaps == 1 && declined == 0);
+
+    lend(one_to_four, 16); /* two pairs, each with a zero inside */
+    CHECK(vx_schur_swap(4, t, 16, NULL, 0, 0, 2, 2, &swaps, &declined) == VX_DONE);
+    CHECK(t[0] == 3 && t[5] == 4 && t[10] == 1 && t[15] == 2);
+    CHECK(swaps == 4 && declined == 0);
 }
 
 /* The number that a call on the lent buffers gives: it must leave them all, and count nothing. */

@@ -117,6 +117,18 @@ fn a_swap_that_declines() {
 }
 
 #[test]
+fn exchanges_of_three_and_four_swaps() {
+    let mut t = [0.0; 16];
+    (t[0], t[5], t[10], t[15]) = (1.0, 2.0, 3.0, 4.0);
+    assert_eq!(schur_swap(4, &mut t, None, 0, 2, 2), Ok(Exchanged { swaps: 4, declined: 0 }));
+    assert_eq!((t[0], t[5], t[10], t[15]), (3.0, 4.0, 1.0, 2.0));
+
+    // rows 0 and 1 have a zero inside, rows 2 and 3, (1, 2) and (3, 4), split on the way
+    let mut t = [7.0, 0.0, 0.0, 0.0, 1.0, 9.0, 0.0, 0.0, 1.0, 2.0, 1.0, 3.0, 3.0, 4.0, 2.0, 4.0];
+    assert_eq!(schur_swap(4, &mut t, None, 0, 2, 2), Ok(Exchanged { swaps: 3, declined: 0 }));
+}
+
+#[test]
 fn eigenvectors() {
     let mut v = [9.0; 4];
     evd_from_real_schur(2, &[1.0, 0.0, 1.0, 2.0], &mut v).unwrap();
