@@ -1,0 +1,3 @@
+-- The proofs about strides.
+pub mod Put
+pub mod Base
