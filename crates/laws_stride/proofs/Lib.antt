@@ -1,3 +1,4 @@
 -- The proofs about strides.
 pub mod Put
+pub mod Operations
 pub mod Base
