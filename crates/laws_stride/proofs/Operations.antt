@@ -12,8 +12,8 @@ use Rattle.model.specs.Swaps.{put}
 
 -- such a relation
 pub record Rowwise (ld md n : ℕ) (R : List Float → List Float → Type 0) : Type 0 where
-  pub reads : (a b : List Float) (i j : ℕ) → i < n → j < n → R a b → entry ld a i j ≡ entry md b i j
-  pub puts : (a b : List Float) (i j : ℕ) (v : Float) → i < n → j < n → R a b → R (put ld i j v a) (put md i j v b)
+  pub reads : {a b : List Float} (i j : ℕ) → i < n → j < n → R a b → entry ld a i j ≡ entry md b i j
+  pub puts : {a b : List Float} (i j : ℕ) (v : Float) → i < n → j < n → R a b → R (put ld i j v a) (put md i j v b)
 
 -- ---- an operation on columns below n
 
@@ -68,79 +68,71 @@ along-row ld md n j x h = record { pair = λ m l. record { row = x; col = j + m;
 module _ (f : Format) (ld md n : ℕ) (R : List Float → List Float → Type 0) (K : Rowwise ld md n R) where
   -- ---- one number
 
-  pub puts-same : (a b : List Float) (i j : ℕ) (v w : Float) → i < n → j < n → v ≡ w → R a b → R (put ld i j v a) (put md i j w b)
-  puts-same a b i j v w g h e r = rw e (K .puts a b i j w g h r)
+  read-at : {a b : List Float} {p q : ℕ} → Paired ld md n p q → R a b → at a p ≡ at b q
+  read-at w r = rw (w .first, w .second) (K .reads (w .row) (w .col) (w .row-below) (w .col-below) r)
 
-  read-at : (a b : List Float) (p q : ℕ) → Paired ld md n p q → R a b → at a p ≡ at b q
-  read-at a b p q w r = rw (w .first, w .second) (K .reads a b (w .row) (w .col) (w .row-below) (w .col-below) r)
+  set-at : {a b : List Float} {p q : ℕ} (v : Float) → Paired ld md n p q → R a b → R (set a p v) (set b q v)
+  set-at v w r = rw (w .first, w .second) (K .puts (w .row) (w .col) v (w .row-below) (w .col-below) r)
 
-  set-at : (a b : List Float) (p q : ℕ) (v : Float) → Paired ld md n p q → R a b → R (set a p v) (set b q v)
-  set-at a b p q v w r = rw (w .first, w .second) (K .puts a b (w .row) (w .col) v (w .row-below) (w .col-below) r)
+  pub puts-same : {a b : List Float} (i j : ℕ) {v w : Float} → i < n → j < n → v ≡ w → R a b → R (put ld i j v a) (put md i j w b)
+  puts-same i j {w = w} g h e r = rw e (K .puts i j w g h r)
 
   -- ---- at places
 
-  rotate-at : (v : Rotation) (a b : List Float) (p q p' q' : ℕ) → Paired ld md n p p' → Paired ld md n q q' → R a b → R (rotateAt f v p q a) (rotateAt f v p' q' b)
+  rotate-at : (v : Rotation) {a b : List Float} {p q p' q' : ℕ} → Paired ld md n p p' → Paired ld md n q q' → R a b → R (rotateAt f v p q a) (rotateAt f v p' q' b)
   unfolding rotateAt
-  rotate-at v a b p q p' q' x y r = rw (read-at a b p p' x r, read-at a b q q' y r) (set-at _ _ q q' _ y (set-at a b p p' _ x r))
+  rotate-at v x y r = rw (read-at x r, read-at y r) (set-at _ y (set-at _ x r))
 
-  reflect3-at : (v : Reflect3) (a b : List Float) (p q o p' q' o' : ℕ) → Paired ld md n p p' → Paired ld md n q q' → Paired ld md n o o' → R a b
+  reflect3-at : (v : Reflect3) {a b : List Float} {p q o p' q' o' : ℕ} → Paired ld md n p p' → Paired ld md n q q' → Paired ld md n o o' → R a b
       → R (reflect3At f v p q o a) (reflect3At f v p' q' o' b)
   unfolding reflect3At
-  reflect3-at v a b p q o p' q' o' x y z r = rw (read-at a b p p' x r, read-at a b q q' y r, read-at a b o o' z r) (set-at _ _ o o' _ z (set-at _ _ q q' _ y (set-at a b p p' _ x r)))
+  reflect3-at v x y z r = rw (read-at x r, read-at y r, read-at z r) (set-at _ z (set-at _ y (set-at _ x r)))
 
-  reflect4-at : (v : Reflect4) (a b : List Float) (p q o s p' q' o' s' : ℕ) → Paired ld md n p p' → Paired ld md n q q' → Paired ld md n o o' → Paired ld md n s s' → R a b
+  reflect4-at : (v : Reflect4) {a b : List Float} {p q o s p' q' o' s' : ℕ} → Paired ld md n p p' → Paired ld md n q q' → Paired ld md n o o' → Paired ld md n s s' → R a b
       → R (reflect4At f v p q o s a) (reflect4At f v p' q' o' s' b)
   unfolding reflect4At
-  reflect4-at v a b p q o s p' q' o' s' x y z w r =
-      rw (read-at a b p p' x r, read-at a b q q' y r, read-at a b o o' z r, read-at a b s s' w r) (set-at _ _ s s' _ w (set-at _ _ o o' _ z (set-at _ _ q q' _ y (set-at a b p p' _ x r))))
+  reflect4-at v x y z w r = rw (read-at x r, read-at y r, read-at z r, read-at w r) (set-at _ w (set-at _ z (set-at _ y (set-at _ x r))))
 
   -- ---- along runs
 
-  rotate-run : (v : Rotation) (i i' k : ℕ) (a b : List Float) (p q p' q' : ℕ) → Line ld md n k i i' p p' → Line ld md n k i i' q q' → R a b
+  rotate-run : (v : Rotation) (k : ℕ) {a b : List Float} {i i' p q p' q' : ℕ} → Line ld md n k i i' p p' → Line ld md n k i i' q q' → R a b
       → R (rotateRun f v i k p q a) (rotateRun f v i' k p' q' b)
   unfolding rotateRun
-  rotate-run v i i' zero a b p q p' q' x y r = r
-  rotate-run v i i' (suc k) a b p q p' q' x y r =
-      rotate-run v i i' k _ _ _ _ _ _ (tail x) (tail y) (rotate-at v a b p q p' q' (head x) (head y) r)
+  rotate-run v zero x y r = r
+  rotate-run v (suc k) x y r = rotate-run v k (tail x) (tail y) (rotate-at v (head x) (head y) r)
 
-  reflect3-run : (v : Reflect3) (i i' k : ℕ) (a b : List Float) (p q o p' q' o' : ℕ) → Line ld md n k i i' p p' → Line ld md n k i i' q q' → Line ld md n k i i' o o' → R a b
+  reflect3-run : (v : Reflect3) (k : ℕ) {a b : List Float} {i i' p q o p' q' o' : ℕ} → Line ld md n k i i' p p' → Line ld md n k i i' q q' → Line ld md n k i i' o o' → R a b
       → R (reflect3Run f v i k p q o a) (reflect3Run f v i' k p' q' o' b)
   unfolding reflect3Run
-  reflect3-run v i i' zero a b p q o p' q' o' x y z r = r
-  reflect3-run v i i' (suc k) a b p q o p' q' o' x y z r =
-      reflect3-run v i i' k _ _ _ _ _ _ _ _ (tail x) (tail y) (tail z)
-      (reflect3-at v a b p q o p' q' o' (head x) (head y) (head z) r)
+  reflect3-run v zero x y z r = r
+  reflect3-run v (suc k) x y z r = reflect3-run v k (tail x) (tail y) (tail z) (reflect3-at v (head x) (head y) (head z) r)
 
-  reflect4-run : (v : Reflect4) (i i' k : ℕ) (a b : List Float) (p q o s p' q' o' s' : ℕ) → Line ld md n k i i' p p' → Line ld md n k i i' q q' → Line ld md n k i i' o o' → Line ld md n k i i' s s' → R a b
+  reflect4-run : (v : Reflect4) (k : ℕ) {a b : List Float} {i i' p q o s p' q' o' s' : ℕ} → Line ld md n k i i' p p' → Line ld md n k i i' q q' → Line ld md n k i i' o o' → Line ld md n k i i' s s' → R a b
       → R (reflect4Run f v i k p q o s a) (reflect4Run f v i' k p' q' o' s' b)
   unfolding reflect4Run
-  reflect4-run v i i' zero a b p q o s p' q' o' s' x y z w r = r
-  reflect4-run v i i' (suc k) a b p q o s p' q' o' s' x y z w r =
-      reflect4-run v i i' k _ _ _ _ _ _ _ _ _ _ (tail x) (tail y) (tail z) (tail w)
-      (reflect4-at v a b p q o s p' q' o' s' (head x) (head y) (head z) (head w) r)
+  reflect4-run v zero x y z w r = r
+  reflect4-run v (suc k) x y z w r = reflect4-run v k (tail x) (tail y) (tail z) (tail w) (reflect4-at v (head x) (head y) (head z) (head w) r)
 
   -- ---- operations
 
-  on-columns : (count : ℕ) (o : Operation) (a b : List Float) → count ≤ n → Inside n o → R a b → R (onColumns f ld count o a) (onColumns f md count o b)
+  on-columns : (count : ℕ) (o : Operation) {a b : List Float} → count ≤ n → Inside n o → R a b → R (onColumns f ld count o a) (onColumns f md count o b)
   unfolding onColumns Inside
-  on-columns count (rotates v x y) a b g h r = rotate-run v 1 1 count a b _ _ _ _ (down-column ld md n count x g (h .0)) (down-column ld md n count y g (h .1)) r
-  on-columns count (reflects3 v x y z) a b g h r =
-      reflect3-run v 1 1 count a b _ _ _ _ _ _ (down-column ld md n count x g (h .0)) (down-column ld md n count y g (h .1)) (down-column ld md n count z g (h .2)) r
-  on-columns count (reflects4 v x y z w) a b g h r =
-      reflect4-run v 1 1 count a b _ _ _ _ _ _ _ _ (down-column ld md n count x g (h .0)) (down-column ld md n count y g (h .1)) (down-column ld md n count z g (h .2)) (down-column ld md n count w g (h .3)) r
+  on-columns count (rotates v x y) g h r = rotate-run v count (down-column ld md n count x g (h .0)) (down-column ld md n count y g (h .1)) r
+  on-columns count (reflects3 v x y z) g h r = reflect3-run v count (down-column ld md n count x g (h .0)) (down-column ld md n count y g (h .1)) (down-column ld md n count z g (h .2)) r
+  on-columns count (reflects4 v x y z w) g h r = reflect4-run v count (down-column ld md n count x g (h .0)) (down-column ld md n count y g (h .1)) (down-column ld md n count z g (h .2)) (down-column ld md n count w g (h .3)) r
 
-  on-rows : (j : ℕ) (o : Operation) (a b : List Float) → Inside n o → R a b → R (onRows f ld j (n - j) o a) (onRows f md j (n - j) o b)
+  on-rows : (j : ℕ) (o : Operation) {a b : List Float} → Inside n o → R a b → R (onRows f ld j (n - j) o a) (onRows f md j (n - j) o b)
   unfolding onRows Inside
-  on-rows j (rotates v x y) a b h r = rotate-run v ld md (n - j) a b _ _ _ _ (along-row ld md n j x (h .0)) (along-row ld md n j y (h .1)) r
-  on-rows j (reflects3 v x y z) a b h r = reflect3-run v ld md (n - j) a b _ _ _ _ _ _ (along-row ld md n j x (h .0)) (along-row ld md n j y (h .1)) (along-row ld md n j z (h .2)) r
-  on-rows j (reflects4 v x y z w) a b h r =
-      reflect4-run v ld md (n - j) a b _ _ _ _ _ _ _ _ (along-row ld md n j x (h .0)) (along-row ld md n j y (h .1)) (along-row ld md n j z (h .2)) (along-row ld md n j w (h .3)) r
+  on-rows j (rotates v x y) h r = rotate-run v (n - j) (along-row ld md n j x (h .0)) (along-row ld md n j y (h .1)) r
+  on-rows j (reflects3 v x y z) h r = reflect3-run v (n - j) (along-row ld md n j x (h .0)) (along-row ld md n j y (h .1)) (along-row ld md n j z (h .2)) r
+  on-rows j (reflects4 v x y z w) h r =
+      reflect4-run v (n - j) (along-row ld md n j x (h .0)) (along-row ld md n j y (h .1)) (along-row ld md n j z (h .2)) (along-row ld md n j w (h .3)) r
 
-  pub on-form : (j i : ℕ) (o : Operation) (a b : List Float) → i ≤ n → Inside n o → R a b → R (onForm f ld n j i o a) (onForm f md n j i o b)
+  pub on-form : (j i : ℕ) (o : Operation) {a b : List Float} → i ≤ n → Inside n o → R a b → R (onForm f ld n j i o a) (onForm f md n j i o b)
   unfolding onForm
-  on-form j i o a b g h r = on-columns i o _ _ g h (on-rows j o a b h r)
+  on-form j i o g h r = on-columns i o g h (on-rows j o h r)
 
-  pub on-factor : (rows : ℕ) (os : List Operation) (a b : List Float) → rows ≤ n → AllInside n os → R a b → R (onFactor f ld rows os a) (onFactor f md rows os b)
+  pub on-factor : (rows : ℕ) (os : List Operation) {a b : List Float} → rows ≤ n → AllInside n os → R a b → R (onFactor f ld rows os a) (onFactor f md rows os b)
   unfolding onFactor AllInside
-  on-factor rows [] a b g h r = r
-  on-factor rows (o ∷ os) a b g h r = on-factor rows os _ _ g (h .1) (on-columns rows o a b g (h .0) r)
+  on-factor rows [] g h r = r
+  on-factor rows (o ∷ os) g h r = on-factor rows os g (h .1) (on-columns rows o g (h .0) r)
