@@ -1,4 +1,5 @@
 -- The proofs about strides.
 pub mod Put
 pub mod Operations
+pub mod Changes
 pub mod Base

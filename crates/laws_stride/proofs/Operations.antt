@@ -17,12 +17,12 @@ pub record Rowwise (ld md n : ℕ) (R : List Float → List Float → Type 0) : 
 
 -- ---- an operation on columns below n
 
-pub Inside : ℕ → Operation → Type 0
+unfoldable pub Inside : ℕ → Operation → Type 0
 Inside n (rotates v x y) = (x < n) × (y < n)
 Inside n (reflects3 v x y z) = (x < n) × (y < n) × (z < n)
 Inside n (reflects4 v x y z w) = (x < n) × (y < n) × (z < n) × (w < n)
 
-pub AllInside : ℕ → List Operation → Type 0
+unfoldable pub AllInside : ℕ → List Operation → Type 0
 AllInside n [] = Unit {0}
 AllInside n (o ∷ os) = Inside n o × AllInside n os
 
