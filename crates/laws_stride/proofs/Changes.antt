@@ -19,7 +19,7 @@ pub guarded : (a x y : Bool) → (a ≡ true → x ≡ y) → (a && x) ≡ (a &&
 guarded true x y h = h refl
 guarded false x y h = refl
 
-is-two : (k : ℕ) (b : Bool) → (eqb k 2 && b) ≡ true → k ≡ 2
+pub is-two : (k : ℕ) (b : Bool) → (eqb k 2 && b) ≡ true → k ≡ 2
 is-two k b h = eqb-true k 2 (left (eqb k 2) h)
   where
     left : (a : Bool) → (a && b) ≡ true → a ≡ true
@@ -27,9 +27,9 @@ is-two k b h = eqb-true k 2 (left (eqb k 2) h)
     left false e = e
 
 -- the same way on both sides
-pub branch : {A B : Type 0} (P : A → B → Type 0) (b : Bool) {x x' : A} {y y' : B} → (b ≡ true → P x y) → (b ≡ false → P x' y') → P (cond b x x') (cond b y y')
-branch P true h k = h refl
-branch P false h k = k refl
+pub branch : {A B : Type 0} (P : A → B → Type 0) (b : Bool) {b' : Bool} {x x' : A} {y y' : B} → b ≡ b' → (b ≡ true → P x y) → (b ≡ false → P x' y') → P (cond b x x') (cond b' y y')
+branch P true e h k = rw (← e) (h refl)
+branch P false e h k = rw (← e) (k refl)
 
 -- the n1 rows from row j on and the n2 below them, one or two each, are below n
 pub record Room (n j n1 n2 : ℕ) : Type 0 where
@@ -127,7 +127,7 @@ module _ (f : Format) (ld md n : ℕ) (R : List Float → List Float → Type 0)
     unfolding swap22 swap22By Inside AllInside
     alike22 h =
         rw (window-same h)
-        (branch (Alike n R) (declines f (reflectors4 f (solutionOf f (windowAt md b j))) (windowAt md b j))
+        (branch (Alike n R) (declines f (reflectors4 f (solutionOf f (windowAt md b j))) (windowAt md b j)) refl
         (λ _. record { forms = r; operations = refl; inside = tt; runs = refl })
         (λ _. alike-swapped j 2 2 _ rows
         (K .puts (j + 3) (j + 1) (zeroOf f) h (omega arith) (K .puts (j + 3) j (zeroOf f) h (omega arith) (K .puts (j + 2) (j + 1) (zeroOf f) (omega arith) (omega arith) (K .puts (j + 2) j (zeroOf f) (omega arith) (omega arith)
@@ -161,13 +161,13 @@ module _ (f : Format) (ld md n : ℕ) (R : List Float → List Float → Type 0)
   alike-swap : (j n1 n2 : ℕ) {a b : List Float} → Room n j n1 n2 → R a b → Alike n R (swapOf f ld n j n1 n2 a) (swapOf f md n j n1 n2 b)
   unfolding swapOf
   alike-swap j n1 n2 w r =
-      branch (Alike n R) (eqb n1 1)
-      (λ d. branch (Alike n R) (eqb n2 1) (λ e. alike11 j r (omega arith)) (λ e. let q = eqb-false n2 1 e in alike12 j r (omega arith)))
-      (λ d. let p = eqb-false n1 1 d in branch (Alike n R) (eqb n2 1) (λ e. alike21 j r (omega arith)) (λ e. let q = eqb-false n2 1 e in alike22 j r (omega arith)))
+      branch (Alike n R) (eqb n1 1) refl
+      (λ d. branch (Alike n R) (eqb n2 1) refl (λ e. alike11 j r (omega arith)) (λ e. let q = eqb-false n2 1 e in alike12 j r (omega arith)))
+      (λ d. let p = eqb-false n1 1 d in branch (Alike n R) (eqb n2 1) refl (λ e. alike21 j r (omega arith)) (λ e. let q = eqb-false n2 1 e in alike22 j r (omega arith)))
 
   alike-standardise-if : (size j : ℕ) {a b : List Float} → j + size ≤ n → R a b → Alike n R (standardiseIf f ld n size j a) (standardiseIf f md n size j b)
   unfolding standardiseIf
-  alike-standardise-if size j h r = branch (Alike n R) (eqb size 2) (λ e. let q = eqb-true size 2 e in alike-standardise j r (omega arith)) (λ _. alike-unchanged r)
+  alike-standardise-if size j h r = branch (Alike n R) (eqb size 2) refl (λ e. let q = eqb-true size 2 e in alike-standardise j r (omega arith)) (λ _. alike-unchanged r)
 
   alike-whole : (j n1 n2 : ℕ) {a b : List Float} → Room n j n1 n2 → R a b → Alike n R (exchangeWhole f ld n j n1 n2 a) (exchangeWhole f md n j n1 n2 b)
   unfolding exchangeWhole
@@ -177,13 +177,12 @@ module _ (f : Format) (ld md n : ℕ) (R : List Float → List Float → Type 0)
   alike-by : (k j n1 n2 : ℕ) {a b : List Float} → Room n j n1 n2 → R a b → Alike n R (exchangeBy k f ld n j n1 n2 a) (exchangeBy k f md n j n1 n2 b)
   unfolding exchangeBy
   alike-by zero j n1 n2 w r = alike-unchanged r
-  alike-by (suc k) j n1 n2 {a} {b} w r =
-      rw (guarded (eqb n1 2) _ _ (λ _. zero-same j (omega arith) r), guarded (eqb n2 2) _ _ (λ e. let q = eqb-true n2 2 e in zero-same (j + n1) (omega arith) r))
-      (branch (Alike n R) (eqb n1 2 && zeroBelow f md b j)
+  alike-by (suc k) j n1 n2 {a} w r =
+      branch (Alike n R) (eqb n1 2 && zeroBelow f ld a j) (guarded (eqb n1 2) _ _ (λ _. zero-same j (omega arith) r))
       (λ e. let q = is-two n1 _ e in alike-then _ _ (alike-by k (j + 1) 1 n2 (room (omega arith) (omega arith) (omega arith) (omega arith) (omega arith)) r) (alike-by k j 1 n2 (room (omega arith) (omega arith) (omega arith) (omega arith) (omega arith))))
-      (λ _. branch (Alike n R) (eqb n2 2 && zeroBelow f md b (j + n1))
+      (λ _. branch (Alike n R) (eqb n2 2 && zeroBelow f ld a (j + n1)) (guarded (eqb n2 2) _ _ (λ e. let q = eqb-true n2 2 e in zero-same (j + n1) (omega arith) r))
       (λ e. let q = is-two n2 _ e in alike-then _ _ (alike-by k j n1 1 (room (omega arith) (omega arith) (omega arith) (omega arith) (omega arith)) r) (alike-by k (j + 1) n1 1 (room (omega arith) (omega arith) (omega arith) (omega arith) (omega arith))))
-      (λ _. alike-whole j n1 n2 w r)))
+      (λ _. alike-whole j n1 n2 w r))
 
   pub alike-exchange : (j n1 n2 : ℕ) {a b : List Float} → Room n j n1 n2 → R a b → Alike n R (exchange f ld n j n1 n2 a) (exchange f md n j n1 n2 b)
   unfolding exchange

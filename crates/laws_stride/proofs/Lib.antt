@@ -2,4 +2,5 @@
 pub mod Put
 pub mod Operations
 pub mod Changes
+pub mod Walk
 pub mod Base
