@@ -1,6 +1,7 @@
 -- Two moves beside each other, each by its own stride, over any relation of changes that makes the zeros just below the diagonal alike and that an exchange of rows below n keeps: both make the same exchanges and end in the same row, and the relation holds at the end. Assumes nothing.
 use mathlib.Core.Path.{_≡_, refl, ap, ap₂, _∙_}
 use Prim.Native.Nat.{ℕ, zero, suc, _+_, _-_, _≤_, _<_}
+use native.Mathlib.Decide.{ℕ-discrete}
 use native.Mathlib.Omega.{arith}
 use mathlib.Core.Bool.{Bool, true, false, not, _&&_, cond}
 use mathlib.Core.List.{List, [], _∷_, _++_}
@@ -50,6 +51,25 @@ size-in f ld n p t h = one-or-two (n - p) (ltb (p + 1) n) (nonzeroBelow f ld t p
 above-in : (f : Format) (ld p : ℕ) (t : List Float) → 0 < p → Size p (sizeAbove f ld t p)
 unfolding sizeAbove
 above-in f ld p t h = one-or-two p (leb 2 p) (nonzeroBelow f ld t (p - 2)) h (leb-true 2 p)
+
+first-below : (f : Format) (ld n p : ℕ) (t : List Float) → p < n → firstRow f ld t p < n
+unfolding firstRow
+first-below f ld n p t h = go (ltb 0 p && nonzeroBelow f ld t (p - 1))
+  where
+    go : (b : Bool) → cond b (p - 1) p < n
+    go true = omega arith
+    go false = h
+
+-- a block of k rows at its goal, the block there before of l rows
+goal-below : (n k l to : ℕ) → 1 ≤ k → k ≤ 2 → 0 < to → to < n → Size (n - to) l → goalDown k l to + k ≤ n
+unfolding goalDown
+goal-below n k l to g h t m z =
+    elim (ℕ-discrete k 1) [
+      | yes p ↦ elim (ℕ-discrete l 1) [ yes q ↦ rw (p, q) (omega arith) | no q ↦ let r : l ≡ 2 = omega arith in rw (p, r) (omega arith) ]
+      | no p ↦
+          let d : k ≡ 2 = omega arith in
+          elim (ℕ-discrete l 1) [ yes q ↦ rw (d, q) (omega arith) | no q ↦ let r : l ≡ 2 = omega arith in rw (d, r) (omega arith) ]
+    ]
 
 -- nbf after a landing
 kept : (s k : ℕ) (b : Bool) → s ≤ k → k + 1 ≤ s + s → (b ≡ true → k ≡ 2) → (s ≤ cond b 3 k) × (cond b 3 k + 1 ≤ s + s)
@@ -204,3 +224,34 @@ module _ (f : Format) (ld md n : ℕ) (Q : Change → Change → Type 0) (K : Ex
     up-by zero goal b = b
     up-by (suc k) goal {m} b =
         branch Pair (ltb goal (m .here)) (ap (λ (i : ℕ). ltb goal i) (b .here)) (λ e. let l = ltb-true goal (m .here) e in up-by k goal (up-step (omega arith) b)) (λ _. b)
+
+  -- ---- the move
+
+  module _ (a b : List Float) (q : Q (unchanged a) (unchanged b)) where
+    move-from : (from to : ℕ) → from < n → to < n → Beside n Q (sizeAt f ld n a from) (moveFrom f ld n from to a) (moveFrom f md n from to b)
+    unfolding moveFrom
+    move-from from to h g =
+        branch (Pair s) (eqb from to) refl (λ _. start _ same)
+        (λ _. branch (Pair s) (ltb from to) refl
+        (λ e. let l = ltb-true from to e in
+        rw (← same, ← size-same to refl q) (down-by s n (goalDown s (sizeAt f ld n a to) to) (goal-below n s _ to (x .some) (x .most) (omega arith) g (size-in f ld n to a g)) (start s refl)))
+        (λ _. up-by s n to (start _ same)))
+      where
+        s : ℕ
+        s = sizeAt f ld n a from
+
+        same : sizeAt f ld n a from ≡ sizeAt f md n b from
+        same = size-same from refl q
+
+        x : Size (n - from) s
+        x = size-in f ld n from a h
+
+        start : (k : ℕ) → s ≡ k → Pair s (record { here = from; nbf = s; change = unchanged a; exchanges = [] }) (record { here = from; nbf = k; change = unchanged b; exchanges = [] })
+        start k e =
+            let y = x in
+            record { here = refl; nbf = e; exchanges = refl; change = q; some = x .some; most = x .most; low = omega arith; high = omega arith; below = omega arith }
+
+    pub move-beside : (from to : ℕ) → from < n → to < n → Beside n Q (sizeAt f ld n a (firstRow f ld a from)) (move f ld n from to a) (move f md n from to b)
+    unfolding move
+    move-beside from to h g =
+        rw (← first-same from h q, ← first-same to g q) (move-from _ _ (first-below f ld n from a h) (first-below f ld n to a g))
