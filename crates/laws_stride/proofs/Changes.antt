@@ -2,7 +2,7 @@
 use mathlib.Core.Path.{_≡_, refl, sym, ap, ap₂, _∙_}
 use Prim.Native.Nat.{ℕ, zero, suc, _+_, _≤_, _<_}
 use native.Mathlib.Omega.{arith}
-use mathlib.Core.Bool.{Bool, true, false, _&&_, cond}
+use mathlib.Core.Bool.{Bool, true, false, _&&_, cond, true≢false}
 use mathlib.Core.List.{List, [], _∷_, _++_}
 use lib.Dec.{eqb}
 use lib.Ieee.{Float, Format, eq}
@@ -19,12 +19,12 @@ pub guarded : (a x y : Bool) → (a ≡ true → x ≡ y) → (a && x) ≡ (a &&
 guarded true x y h = h refl
 guarded false x y h = refl
 
+pub both-true : (a b : Bool) → (a && b) ≡ true → (a ≡ true) × (b ≡ true)
+both-true true b h = (refl, h)
+both-true false b h = absurd (true≢false (sym h))
+
 pub is-two : (k : ℕ) (b : Bool) → (eqb k 2 && b) ≡ true → k ≡ 2
-is-two k b h = eqb-true k 2 (left (eqb k 2) h)
-  where
-    left : (a : Bool) → (a && b) ≡ true → a ≡ true
-    left true e = refl
-    left false e = e
+is-two k b h = eqb-true k 2 (both-true (eqb k 2) b h .0)
 
 -- the same way on both sides
 pub branch : {A B : Type 0} (P : A → B → Type 0) (b : Bool) {b' : Bool} {x x' : A} {y y' : B} → b ≡ b' → (b ≡ true → P x y) → (b ≡ false → P x' y') → P (cond b x x') (cond b' y y')
