@@ -1,18 +1,17 @@
--- The claims on moves and exchanges: two strides, and rows beyond n. One law on two calls, whose forms and factors stand in relations that the n rows decide, gives both. Assumes nothing.
+-- The claims on moves and exchanges: rows beyond n, and two strides. Both come from one law on two calls, whose forms, and whose factors, stand in a relation that goes by their n rows. Assumes nothing.
 use mathlib.Core.Path.{_≡_, refl, sym, ap, _∙_}
-use mathlib.Core.Logic.{_⊎_, inl, inr}
-use Prim.Native.Nat.{ℕ, zero, suc, _+_, _*_, _≤_, _<_}
-use native.Mathlib.Nat.{mul-le-mul-left}
+use mathlib.Core.Logic.{inl, inr}
+use Prim.Native.Nat.{ℕ, zero, suc, _*_, _≤_, _<_}
 use native.Mathlib.Omega.{arith}
 use mathlib.Core.Bool.{Bool, true, false, cond}
 use mathlib.Core.List.{List, [], _∷_}
 use lib.Dec.{eqb}
 use lib.ListN.{length, length-set}
 use lib.Ieee.{Float, nan, Format}
-use borrow.Author.Tests.{eqb-true, eq-eqb, ne-eqb}
+use borrow.Author.Tests.{eqb-true, ne-eqb}
 use Rattle.model.specs.Form.{place, at, entry}
 use Rattle.model.specs.Columns.{onFactor}
-use Rattle.model.specs.Swaps.{Change, declinesIn, swapsOf, declinedOf, unchanged, put}
+use Rattle.model.specs.Swaps.{Change, declinesIn, put}
 use Rattle.model.specs.Exchange.{exchange, factorRows, Exchanged, exchanged, exchangeLine, exchangeCall}
 use Rattle.model.specs.Move.{move, Moved, moved, moveLine, moveCall}
 use Rattle.laws_moves.proofs.Upper.{at-least}
@@ -21,7 +20,7 @@ use Rattle.laws_stride.specs.Strides.{Allowed, SameRows, SameFactor, Sam
 use Rattle.laws_stride.proofs.Put.{put-same, put-beyond}
 use Rattle.laws_stride.proofs.Operations.{Rowwise, on-factor}
 use Rattle.laws_stride.proofs.Changes.{branch, Alike, zero-same, alike-unchanged, alike-then, alike-exchange}
-use Rattle.laws_stride.proofs.Walk.{Exchanges, Beside, move-beside}
+use Rattle.laws_stride.proofs.Walk.{Exchanges, move-beside}
 use Rattle.laws_stride.proofs.Lines.{move-line-same, exchange-line-same, move-passed, exchange-passed}
 
 -- two answers of a move, with the forms in one relation and the factors in another

@@ -1,16 +1,16 @@
--- A change made to both of two forms that stand in such a relation: the four swaps, standardising, and the exchange of rows below n do the same operations and runs, and keep the relation. Assumes nothing.
-use mathlib.Core.Path.{_≡_, refl, sym, ap, ap₂, _∙_}
+-- Two forms in a relation that goes by their n rows, as in Operations. The four swaps, standardising, and the exchange of rows below n do the same operations and runs on both, and keep the relation. Assumes nothing.
+use mathlib.Core.Path.{_≡_, refl, sym, ap, ap₂}
 use Prim.Native.Nat.{ℕ, zero, suc, _+_, _≤_, _<_}
 use native.Mathlib.Omega.{arith}
 use mathlib.Core.Bool.{Bool, true, false, _&&_, cond, true≢false}
-use mathlib.Core.List.{List, [], _∷_, _++_}
+use mathlib.Core.List.{List, _++_}
 use lib.Dec.{eqb}
 use lib.Ieee.{Float, Format, eq}
 use borrow.Author.Tests.{eqb-true, eqb-false}
 use Rattle.model.specs.Arith.{zeroOf}
-use Rattle.model.specs.Form.{entry, zeroBelow}
-use Rattle.model.specs.Columns.{Operation, rotates, reflects3, reflects4}
-use Rattle.model.specs.Swaps.{Change, unchanged, swapped, declining, andThen, rotation11, swap11, reflectors12, swap12, reflectors21, swap21, windowColumn, windowAt, reflectors4, solutionOf, declines, swap22By, swap22, swapOf, blockAt, standardise}
+use Rattle.model.specs.Form.{zeroBelow}
+use Rattle.model.specs.Columns.{Operation}
+use Rattle.model.specs.Swaps.{Change, unchanged, swapped, andThen, rotation11, swap11, reflectors12, swap12, reflectors21, swap21, windowColumn, windowAt, reflectors4, solutionOf, declines, swap22By, swap22, swapOf, blockAt, standardise}
 use Rattle.model.specs.Exchange.{standardiseIf, exchangeWhole, exchangeBy, exchange}
 use Rattle.laws_stride.proofs.Operations.{Rowwise, Inside, AllInside, inside-append, puts-same, on-form}
 

@@ -1,5 +1,5 @@
--- The lines of a call: of two forms in such a relation the lines about entries apply to both or to neither, and a line not told has its meaning. Assumes nothing.
-use mathlib.Core.Path.{_≡_, refl, sym, ap, ap₂, _∙_}
+-- The lines of a call. Of two forms in a relation that goes by their n rows, the lines about entries apply to both or to neither; and where no line is told, the stride has room and the rows named are below n. Assumes nothing.
+use mathlib.Core.Path.{_≡_, refl, sym, ap, ap₂}
 use mathlib.Core.Logic.{inl, inr}
 use Prim.Native.Nat.{ℕ, zero, suc, _+_, _-_, _*_, _≤_, _<_}
 use native.Mathlib.Omega.{arith}
@@ -10,10 +10,10 @@ use lib.ListN.{length}
 use lib.Ieee.{Float, Format, ne}
 use borrow.Author.Tests.{ltb-true, ltb-false, eqb-true, eq-eqb, not-false}
 use Rattle.model.specs.Arith.{zeroOf}
-use Rattle.model.specs.Form.{place, at, entry, nonzeroBelow, twoBlock, some, line2, line17, line3, line4, deepIn, line5, touchingIn, line6, line7}
+use Rattle.model.specs.Form.{place, at, nonzeroBelow, twoBlock, some, line2, line17, line3, line4, deepIn, line5, touchingIn, line6, line7}
 use Rattle.model.specs.Exchange.{line8, line9, crosses, line10, exchangeLine}
 use Rattle.model.specs.Move.{moveLine}
-use Rattle.laws_moves.proofs.Upper.{or-left, or-right, at-least}
+use Rattle.laws_moves.proofs.Upper.{at-least}
 use Rattle.laws_stride.specs.Strides.{Allowed, SameRows, SameFactor}
 use Rattle.laws_stride.proofs.Operations.{Rowwise}
 use Rattle.laws_stride.proofs.Changes.{guarded, both-true, Room, room}

@@ -1,5 +1,5 @@
--- Two forms, each by its own stride, that stand in any relation that makes the n rows read alike and that a number put in the same row and column of both keeps: operations on columns and rows below n keep it. Assumes nothing.
-use mathlib.Core.Path.{_≡_, refl, ap}
+-- Two forms, each by its own stride, in any relation that makes their n rows read alike and that a number put in the same row and column of both keeps. Operations on columns and rows below n keep it. Assumes nothing.
+use mathlib.Core.Path.{_≡_}
 use Prim.Native.Nat.{ℕ, zero, suc, _+_, _-_, _*_, _≤_, _<_}
 use native.Mathlib.Omega.{arith}
 use mathlib.Core.List.{List, [], _∷_, _++_}

@@ -1,5 +1,5 @@
--- Two moves beside each other, each by its own stride, over any relation of changes that makes the zeros just below the diagonal alike and that an exchange of rows below n keeps: both make the same exchanges and end in the same row, and the relation holds at the end. Assumes nothing.
-use mathlib.Core.Path.{_≡_, refl, ap, ap₂, _∙_}
+-- Two moves beside each other, each by its own stride, over any relation of changes that makes the zeros just below the diagonal alike and that an exchange of rows below n keeps. Both make the same exchanges and end in the same row, with the relation kept. Assumes nothing.
+use mathlib.Core.Path.{_≡_, refl, ap, ap₂}
 use Prim.Native.Nat.{ℕ, zero, suc, _+_, _-_, _≤_, _<_}
 use native.Mathlib.Decide.{ℕ-discrete}
 use native.Mathlib.Omega.{arith}
@@ -7,7 +7,7 @@ use mathlib.Core.Bool.{Bool, true, false, not, _&&_, cond}
 use mathlib.Core.List.{List, [], _∷_, _++_}
 use lib.Dec.{eqb, ltb, leb}
 use lib.Ieee.{Float, Format, ne}
-use borrow.Author.Tests.{eqb-true, eqb-false, ltb-true, ltb-false, leb-true}
+use borrow.Author.Tests.{eqb-true, eqb-false, ltb-true, leb-true}
 use Rattle.model.specs.Form.{zeroBelow, nonzeroBelow, twoBlock}
 use Rattle.model.specs.Swaps.{Change, unchanged, andThen}
 use Rattle.model.specs.Exchange.{exchange}
