@@ -63,7 +63,7 @@ module _ (f : Format) (ld md n : ℕ) (R : List Float → List Float → Type 0)
 
   pub alike-then : {c d : Change} (g h : List Float → Change) → Alike n R c d → (R (c .form) (d .form) → Alike n R (g (c .form)) (h (d .form))) → Alike n R (andThen c g) (andThen d h)
   unfolding andThen
-  alike-then {c} {d} g h s t =
+  alike-then {c} g h s t =
       let w = t (s .forms) in
       record {
         forms = w .forms;
@@ -81,7 +81,9 @@ module _ (f : Format) (ld md n : ℕ) (R : List Float → List Float → Type 0)
   module _ (j : ℕ) {a b : List Float} (r : R a b) where
     rotation11-same : j + 1 < n → rotation11 f ld a j ≡ rotation11 f md b j
     unfolding rotation11
-    rotation11-same h = rw (K .reads j (j + 1) (omega arith) (omega arith) r, K .reads (j + 1) (j + 1) (omega arith) (omega arith) r, K .reads j j (omega arith) (omega arith) r)
+    rotation11-same h =
+        let p : j < n = omega arith in
+        rw (K .reads j (j + 1) p h r, K .reads (j + 1) (j + 1) h h r, K .reads j j p p r)
 
     alike11 : j + 1 < n → Alike n R (swap11 f ld n j a) (swap11 f md n j b)
     unfolding swap11 Inside
@@ -89,11 +91,14 @@ module _ (f : Format) (ld md n : ℕ) (R : List Float → List Float → Type 0)
         rw (rotation11-same h)
         (alike-swapped j 1 1 _ (omega arith, h)
         (on-form f ld md n R K (j + 2) j _ (omega arith) (omega arith, h)
-        (puts-same f ld md n R K j j (omega arith) (omega arith) (K .reads (j + 1) (j + 1) (omega arith) (omega arith) r) (puts-same f ld md n R K (j + 1) (j + 1) h h (K .reads j j (omega arith) (omega arith) r) r))))
+        (puts-same f ld md n R K j j (omega arith) (omega arith) (K .reads (j + 1) (j + 1) h h r) (puts-same f ld md n R K (j + 1) (j + 1) h h (K .reads j j (omega arith) (omega arith) r) r))))
 
     reflectors12-same : j + 2 < n → reflectors12 f ld a j ≡ reflectors12 f md b j
     unfolding reflectors12
-    reflectors12-same h = rw (K .reads j (j + 1) (omega arith) (omega arith) r, K .reads (j + 1) (j + 1) (omega arith) (omega arith) r, K .reads j j (omega arith) (omega arith) r, K .reads (j + 2) (j + 1) (omega arith) (omega arith) r, K .reads j (j + 2) (omega arith) (omega arith) r, K .reads (j + 1) (j + 2) (omega arith) (omega arith) r, K .reads (j + 2) (j + 2) (omega arith) (omega arith) r)
+    reflectors12-same h =
+        let p : j < n = omega arith in
+        let q : j + 1 < n = omega arith in
+        rw (K .reads j (j + 1) p q r, K .reads (j + 1) (j + 1) q q r, K .reads j j p p r, K .reads (j + 2) (j + 1) h q r, K .reads j (j + 2) p h r, K .reads (j + 1) (j + 2) q h r, K .reads (j + 2) (j + 2) h h r)
 
     alike12 : j + 2 < n → Alike n R (swap12 f ld n j a) (swap12 f md n j b)
     unfolding swap12 Inside
@@ -105,7 +110,10 @@ module _ (f : Format) (ld md n : ℕ) (R : List Float → List Float → Type 0)
 
     reflectors21-same : j + 2 < n → reflectors21 f ld a j ≡ reflectors21 f md b j
     unfolding reflectors21
-    reflectors21-same h = rw (K .reads (j + 1) (j + 2) (omega arith) (omega arith) r, K .reads (j + 1) (j + 1) (omega arith) (omega arith) r, K .reads (j + 2) (j + 2) (omega arith) (omega arith) r, K .reads (j + 1) j (omega arith) (omega arith) r, K .reads j (j + 2) (omega arith) (omega arith) r, K .reads j (j + 1) (omega arith) (omega arith) r, K .reads j j (omega arith) (omega arith) r)
+    reflectors21-same h =
+        let p : j < n = omega arith in
+        let q : j + 1 < n = omega arith in
+        rw (K .reads (j + 1) (j + 2) q h r, K .reads (j + 1) (j + 1) q q r, K .reads (j + 2) (j + 2) h h r, K .reads (j + 1) j q p r, K .reads j (j + 2) p h r, K .reads j (j + 1) p q r, K .reads j j p p r)
 
     alike21 : j + 2 < n → Alike n R (swap21 f ld n j a) (swap21 f md n j b)
     unfolding swap21 Inside
@@ -138,7 +146,9 @@ module _ (f : Format) (ld md n : ℕ) (R : List Float → List Float → Type 0)
 
     block-same : j + 1 < n → blockAt f ld a j ≡ blockAt f md b j
     unfolding blockAt
-    block-same h = cc (K .reads j j (omega arith) (omega arith) r, K .reads j (j + 1) (omega arith) (omega arith) r, K .reads (j + 1) j (omega arith) (omega arith) r, K .reads (j + 1) (j + 1) (omega arith) (omega arith) r)
+    block-same h =
+        let p : j < n = omega arith in
+        cc (K .reads j j p p r, K .reads j (j + 1) p h r, K .reads (j + 1) j h p r, K .reads (j + 1) (j + 1) h h r)
 
     alike-standardise : j + 1 < n → Alike n R (standardise f ld n j a) (standardise f md n j b)
     unfolding standardise Inside AllInside
