@@ -47,10 +47,12 @@ rows-most n u = go (eqb (length u) 0)
     go true = omega arith
     go false = omega arith
 
-module _ (f : Format) (ld md n : ℕ) (a b u v : List Float) (R S : List Float → List Float → Type 0) (K : n ≤ ld → Rowwise ld md n R × Rowwise ld md n S) (r : R a b) (s : S u v) (rows : factorRows n u ≡ factorRows n v) where
-  walks : Rowwise ld md n R → Exchanges f ld md n (Alike n R)
-  walks k = record { zeros = λ j h q. zero-same f ld md n R k j h (q .forms); more = λ j n1 n2 w q. alike-then f ld md n R k _ _ q (alike-exchange f ld md n R k j n1 n2 w) }
+-- the walk of two moves is over such changes
+pub walks : (f : Format) (ld md n : ℕ) (R : List Float → List Float → Type 0) → Rowwise ld md n R → Exchanges f ld md n (Alike n R)
+walks f ld md n R k =
+    record { zeros = λ j h q. zero-same f ld md n R k j h (q .forms); more = λ j n1 n2 w q. alike-then f ld md n R k _ _ q (alike-exchange f ld md n R k j n1 n2 w) }
 
+module _ (f : Format) (ld md n : ℕ) (a b u v : List Float) (R S : List Float → List Float → Type 0) (K : n ≤ ld → Rowwise ld md n R × Rowwise ld md n S) (r : R a b) (s : S u v) (rows : factorRows n u ≡ factorRows n v) where
   factor-both : {c d : Change} → Rowwise ld md n S → Alike n R c d → S (onFactor f ld (factorRows n u) (c .operations) u) (onFactor f md (factorRows n v) (d .operations) v)
   factor-both k q = rw (← rows, ← q .operations) (on-factor f ld md n S k (factorRows n u) _ (rows-most n u) (q .inside) s)
 
@@ -64,7 +66,7 @@ module _ (f : Format) (ld md n : ℕ) (a b u v : List Float) (R S : List Float �
       done h =
           let p = move-passed f ld n a u from to h in
           let k = K (p .0) in
-          let w = move-beside f ld md n (Alike n R) (walks (k .0)) a b (alike-unchanged f ld md n R (k .0) r) from to (p .1) (p .2) in
+          let w = move-beside f ld md n (Alike n R) (walks f ld md n R (k .0)) a b (alike-unchanged f ld md n R (k .0) r) from to (p .1) (p .2) in
           record { answer = refl; landed = w .here; swaps = ap length (w .change .runs); declined = ap declinesIn (w .change .runs); form = w .change .forms; factor = factor-both (k .1) (w .change) }
 
   exchange-both : (j n1 n2 : ℕ) → exchangeLine f ld n a u j n1 n2 ≡ exchangeLine f md n b v j n1 n2 → ExchangedBoth R S (exchangeCall f ld n a u j n1 n2) (exchangeCall f md n b v j n1 n2)
@@ -102,7 +104,7 @@ module _ (ld md n : ℕ) (w : Allowed ld md n) where
   fits' : n ≤ md
   fits' = at-least md n (w .second)
 
-  form-rowwise : Rowwise ld md n (SameRows ld md n)
+  pub form-rowwise : Rowwise ld md n (SameRows ld md n)
   form-rowwise = record { reads = λ i j g h s. s .same i j g h; puts = λ i j v g h s. put-same ld md n i j v _ _ fits fits' g h s }
 
   factor-reads : (u v : List Float) (i j : ℕ) → i < n → j < n → SameFactor ld md n u v → entry ld u i j ≡ entry md v i j
