@@ -1,3 +1,5 @@
 -- The proofs about strides.
 pub mod Put
 pub mod Base
+pub mod Cells
+pub mod Values
