@@ -3,3 +3,5 @@ pub mod Put
 pub mod Base
 pub mod Cells
 pub mod Values
+pub mod Sums
+pub mod Both
