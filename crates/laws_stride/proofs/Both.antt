@@ -12,7 +12,7 @@ use Rattle.model.specs.Vectors.{blocksDown, onPart}
 use Rattle.laws_stride.specs.Beyond.{BeyondStays}
 use Rattle.laws_stride.specs.Strides.{SameRows}
 use Rattle.laws_stride.proofs.Put.{put-same, put-beyond}
-use Rattle.laws_stride.proofs.Cells.{Cell, same-at}
+use Rattle.laws_stride.proofs.Cells.{Cell, cell, same-at}
 
 -- there is room for the n rows
 pub record Room (ld md n : ℕ) : Type 0 where
@@ -81,30 +81,29 @@ pub record Twin (ld md n j k l : ℕ) (o v w x y : List Float) : Type 0 where
   pub right : In (md * j) l w y z
   pub both : Both ld md n o u z
 
--- the same row and column in both parts
-pub record Spot (ld md n j k l q r : ℕ) : Type 0 where
-  pub inside : q < k
-  pub inside' : r < l
-  pub at : Cell ld md n (ld * j + q) (md * j + r)
+-- of two parts, the m numbers from d and from e on are read alike and set alike
+pub record Column (m d e : ℕ) (P : List Float → List Float → Type 0) : Type 0 where
+  pub read : {p q : ℕ} {x y : List Float} (i : ℕ) → i < m → p ≡ d + i → q ≡ e + i → P x y → at x p ≡ at y q
+  pub write : {p q : ℕ} {x y : List Float} {s t : Float} (i : ℕ) → i < m → p ≡ d + i → q ≡ e + i → s ≡ t → P x y → P (set x p s) (set y q t)
 
--- numbers of two parts are read alike and changed alike, at places that S names
-pub record Unknowns (S : ℕ → ℕ → Type 0) (P : List Float → List Float → Type 0) : Type 0 where
-  pub read : {q r : ℕ} {x y : List Float} → S q r → P x y → at x q ≡ at y r
-  pub write : {q r : ℕ} {x y : List Float} {d e : Float} → S q r → d ≡ e → P x y → P (set x q d) (set y r e)
-
-pub unknowns : (ld md n j k l : ℕ) (o v w : List Float) → Room ld md n → Unknowns (Spot ld md n j k l) (Twin ld md n j k l o v w)
-unknowns ld md n j k l o v w m =
+-- those of column c
+pub column : (ld md n j k l m d e c : ℕ) (o v w : List Float) → Room ld md n → d + m ≤ k → e + m ≤ l → m ≤ n → c < n → ld * j + d ≡ ld * c → md * j + e ≡ md * c
+    → Column m d e (Twin ld md n j k l o v w)
+column ld md n j k l m d e c o v w r hk hl hm hc hd he =
     record {
-      read = λ c s. rw (in-at (s .left) (c .inside), in-at (s .right) (c .inside')) (same-at (s .both .rows) (c .at));
-      write = λ {q} {r} {x} {y} {d} {e} c g s.
+      read = λ {p} {q} i h g g' s. let a : p < k = omega arith in let b : q < l = omega arith in rw (in-at (s .left) a, in-at (s .right) b) (same-at (s .both .rows) (here p q i h g g'));
+      write = λ {p} {q} {x} {y} {s} {t} i h g g' z t'.
         record {
-          u = set (s .u) (ld * j + q) d;
-          z = set (s .z) (md * j + r) e;
-          left = in-set d (s .left) (c .inside);
-          right = in-set e (s .right) (c .inside');
-          both = both-set m (c .at) g (s .both);
+          u = set (t' .u) (ld * j + p) s;
+          z = set (t' .z) (md * j + q) t;
+          left = in-set s (t' .left) (omega arith);
+          right = in-set t (t' .right) (omega arith);
+          both = both-set r (here p q i h g g') z (t' .both);
         };
     }
+  where
+    here : (p q i : ℕ) → i < m → p ≡ d + i → q ≡ e + i → Cell ld md n (ld * j + p) (md * j + q)
+    here p q i h g g' = cell i c (omega arith) hc (omega arith) (omega arith)
 
 pub on-part : (ld md n j k l : ℕ) (o v w : List Float) (g h : List Float → List Float)
     → Keeps (Twin ld md n j k l o v w) g h

@@ -5,3 +5,4 @@ pub mod Cells
 pub mod Values
 pub mod Sums
 pub mod Both
+pub mod Solve
