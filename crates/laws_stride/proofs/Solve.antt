@@ -49,3 +49,43 @@ module _ (f : Format) (ld md n : ℕ) (a b : List Float) (r : SameRows ld md n a
     pub solve-real : (p norm : Float) → Keeps P (solveReal f ld a p norm m) (solveReal f md b p norm m)
     unfolding solveReal
     solve-real p norm = blocks f ld md n a b r P _ _ _ _ m w (real-one p norm) (real-two p)
+
+    -- ---- the complex one, whose second column is u'
+
+    module _ (u' : Column m ld md P) where
+      second : (i : ℕ) (x y : List Float) → i < m → P x y → at x (ld + i) ≡ at y (md + i)
+      second i x y h s = u' .read i h refl refl s
+
+      both-parts : (i : ℕ) (z : Complex) → i < m → Keeps P (λ x. complexSet ld x i z) (λ y. complexSet md y i z)
+      unfolding complexSet
+      both-parts i z h x y s = u' .write i h refl refl refl (u .write i h (omega arith) (omega arith) refl s)
+
+      cplx-one : (p q norm : Float) (i : ℕ) → i < m → Keeps P (cplxOne f ld a p q norm m i) (cplxOne f md b p q norm m i)
+      unfolding cplxOne
+      cplx-one p q norm i h x y s =
+          rw
+          (r .same i i (omega arith) (omega arith), number i x y h s, second i x y h s,
+            same-split f _ _ _ _ _ (rest (i + 1) (i + 1) (i + 1) x y u (omega arith) (omega arith) s) (row i (i + 1) h),
+            same-split f _ _ _ _ _ (rest (ld + (i + 1)) (md + (i + 1)) (i + 1) x y u' refl refl s) (row i (i + 1) h))
+          (both-parts i _ h x y s)
+
+      cplx-rest : (i j : ℕ) (x y : List Float) → i < m → P x y → cplxRest f ld a m x i j ≡ cplxRest f md b m y i j
+      unfolding cplxRest
+      cplx-rest i j x y h s =
+          rw
+          (number i x y h s, second i x y h s,
+            same-inner f _ _ _ _ _ (row i j h) (rest j j j x y u (omega arith) (omega arith) s),
+            same-inner f _ _ _ _ _ (row i j h) (rest (ld + j) (md + j) j x y u' refl refl s))
+
+      cplx-two : (p q norm : Float) (i : ℕ) → i + 1 < m → Keeps P (cplxTwo f ld a p q norm m i) (cplxTwo f md b p q norm m i)
+      unfolding cplxTwo
+      cplx-two p q norm i h x y s =
+          let l : i < m = omega arith in
+          let g : i < n = omega arith in
+          let k : i + 1 < n = omega arith in
+          rw (r .same (i + 1) (i + 1) k k, r .same i (i + 1) g k, r .same (i + 1) i k g, cplx-rest i (i + 2) x y l s, cplx-rest (i + 1) (i + 2) x y h s)
+          (both-parts (i + 1) _ h _ _ (both-parts i _ l x y s))
+
+      pub solve-cplx : (p q norm : Float) → Keeps P (solveCplx f ld a p q norm m) (solveCplx f md b p q norm m)
+      unfolding solveCplx
+      solve-cplx p q norm = blocks f ld md n a b r P _ _ _ _ m w (cplx-one p q norm) (cplx-two p q norm)
