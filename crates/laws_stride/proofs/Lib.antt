@@ -6,3 +6,4 @@ pub mod Values
 pub mod Sums
 pub mod Both
 pub mod Solve
+pub mod Vectors
