@@ -70,3 +70,52 @@ module _ (f : Format) (ld md n : ℕ) (a b : List Float) (r : SameRows ld md n a
   vectors-of : Keeps (Both ld md n o) (vectorsOf f ld n a) (vectorsOf f md n b)
   unfolding vectorsOf
   vectors-of v w s = rw (same-norm f ld md n a b r) (blocks f ld md n a b r (Both ld md n o) _ _ _ _ n (omega arith) (real-column (formNorm f md n b)) (cplx-columns (formNorm f md n b)) v w s)
+
+-- ---- the call
+
+stays : (ld n : ℕ) (v : List Float) → BeyondStays ld n v v
+stays ld n v = record { size = refl; beyond = λ i j g h. refl }
+
+same-line : (f : Format) (ld md n : ℕ) (a b v w : List Float) → Allowed ld md n → SameRows ld md n a b → SameRows ld md n v w → vectorsLine f ld n a v ≡ vectorsLine f md n b w
+unfolding vectorsLine
+same-line f ld md n a b v w p r s =
+    rw
+    (p .first, p .second, length-line ld n a (r .size), length-line md n b (r .size'), buffer-line ld n v (s .size), buffer-line md n w (s .size'), same-line5 f ld md n a b r, same-line6 f ld md n a b r)
+
+pub same-vectors : (f : Format) (ld md n : ℕ) (a b v w : List Float) → Allowed ld md n → SameRows ld md n a b → SameRows ld md n v w
+    → SameVectors ld md n (evdFromRealSchur f ld n a v) (evdFromRealSchur f md n b w)
+unfolding evdFromRealSchur
+same-vectors f ld md n a b v w p r s = rw (same-line f ld md n a b v w p r s) (go (eqb (vectorsLine f md n b w) 0) (vectorsLine f md n b w))
+  where
+    done : Both ld md n v (vectorsOf f ld n a v) (vectorsOf f md n b w)
+    done = vectors-of f ld md n a b r (record { first = at-least ld n (p .first); second = at-least md n (p .second) }) v v w (record { rows = s; stays = stays ld n v })
+
+    go : (c : Bool) (l : ℕ)
+        → SameVectors ld md n (cond c (record { answer = 0; v = vectorsOf f ld n a v }) (record { answer = l; v = v }))
+        (cond c (record { answer = 0; v = vectorsOf f md n b w }) (record { answer = l; v = w }))
+    go true l = record { answer = refl; v = done .rows }
+    go false l = record { answer = refl; v = s }
+
+-- where no line applies, neither line 17 nor line 3 nor line 4 does
+no-line : (a e b c : Bool) (k : ℕ) → cond a 2 (cond e 17 (cond b 3 (cond c 4 k))) ≡ 0 → (e ≡ false) × (b ≡ false) × (c ≡ false)
+no-line true e b c k h = absurd (omega arith)
+no-line false true b c k h = absurd (omega arith)
+no-line false false true c k h = absurd (omega arith)
+no-line false false false true k h = absurd (omega arith)
+no-line false false false false k h = (refl, refl, refl)
+
+-- the same with itself
+alone : (ld n : ℕ) (t : List Float) → not (eqb (length t) (ld * n)) ≡ false → SameRows ld ld n t t
+alone ld n t h = let e = eqb-true _ _ (not-false _ h) in record { size = e; size' = e; same = λ i j p q. refl }
+
+pub vectors-beyond : (f : Format) (ld n : ℕ) (t v : List Float) → BeyondStays ld n v (evdFromRealSchur f ld n t v .v)
+unfolding evdFromRealSchur vectorsLine line3
+vectors-beyond f ld n t v = go (eqb (vectorsLine f ld n t v) 0) (λ e. no-line (line2 n) (line17 ld n) _ _ _ (eqb-true _ _ e))
+  where
+    go : (c : Bool) → (c ≡ true → (line17 ld n ≡ false) × (not (eqb (length t) (ld * n)) ≡ false) × (not (eqb (length v) (ld * n)) ≡ false))
+        → BeyondStays ld n v (cond {A = Vectors} c (record { answer = 0; v = vectorsOf f ld n t v }) (record { answer = vectorsLine f ld n t v; v = v }) .v)
+    go true h =
+        let l = h refl in
+        let g = at-least ld n (l .0) in
+        vectors-of f ld ld n t t (alone ld n t (l .1)) (record { first = g; second = g }) v v v (record { rows = alone ld n v (l .2); stays = stays ld n v }) .stays
+    go false h = stays ld n v
