@@ -1,20 +1,20 @@
 -- Two lists changed alike, each by its own stride, of which the first keeps its rows from n on: by one number, block after block, and in a part that is taken out and put back. Assumes nothing.
-use mathlib.Core.Path.{_≡_, refl, sym}
+use mathlib.Core.Path.{_≡_, refl}
 use Prim.Native.Nat.{ℕ, zero, suc, _+_, _*_, _≤_, _<_}
 use native.Mathlib.Omega.{arith}
 use mathlib.Core.Bool.{Bool, true, false, cond}
 use mathlib.Core.List.{List, _++_}
-use lib.ListN.{length, set, take, drop, take-append-drop}
+use lib.ListN.{set, take, drop, take-append-drop}
 use lib.Seq.{getD-take, getD-drop, take-set-le, take-set-lt, drop-set-lt, drop-set-add, drop-drop}
-use lib.Ieee.{Float, nan, Format}
-use Rattle.model.specs.Form.{place, at, zeroBelow}
+use lib.Ieee.{Float, Format}
+use Rattle.model.specs.Form.{at, zeroBelow}
 use Rattle.model.specs.Vectors.{blocksDown, onPart}
 use Rattle.laws_stride.specs.Beyond.{BeyondStays}
 use Rattle.laws_stride.specs.Strides.{SameRows}
 use Rattle.laws_stride.proofs.Put.{put-same, put-beyond}
 use Rattle.laws_stride.proofs.Cells.{Cell, cell, same-at}
 
--- there is room for the n rows
+-- there is room for the n rows by both strides
 pub record Room (ld md n : ℕ) : Type 0 where
   pub first : n ≤ ld
   pub second : n ≤ md
@@ -86,20 +86,20 @@ pub record Column (m d e : ℕ) (P : List Float → List Float → Type 0) : Typ
   pub read : {p q : ℕ} {x y : List Float} (i : ℕ) → i < m → p ≡ d + i → q ≡ e + i → P x y → at x p ≡ at y q
   pub write : {p q : ℕ} {x y : List Float} {s t : Float} (i : ℕ) → i < m → p ≡ d + i → q ≡ e + i → s ≡ t → P x y → P (set x p s) (set y q t)
 
--- those of column c
+-- so are those of column c, in parts from column j on
 pub column : (ld md n j k l m d e c : ℕ) (o v w : List Float) → Room ld md n → d + m ≤ k → e + m ≤ l → m ≤ n → c < n → ld * j + d ≡ ld * c → md * j + e ≡ md * c
     → Column m d e (Twin ld md n j k l o v w)
 column ld md n j k l m d e c o v w r hk hl hm hc hd he =
     record {
       read = λ {p} {q} i h g g' s. let a : p < k = omega arith in let b : q < l = omega arith in rw (in-at (s .left) a, in-at (s .right) b) (same-at (s .both .rows) (here p q i h g g'));
-      write = λ {p} {q} {x} {y} {s} {t} i h g g' z t'.
-        record {
-          u = set (t' .u) (ld * j + p) s;
-          z = set (t' .z) (md * j + q) t;
-          left = in-set s (t' .left) (omega arith);
-          right = in-set t (t' .right) (omega arith);
-          both = both-set r (here p q i h g g') z (t' .both);
-        };
+      write = λ {p} {q} {s} {t} i h g g' z b.
+          record {
+            u = set (b .u) (ld * j + p) s;
+            z = set (b .z) (md * j + q) t;
+            left = in-set s (b .left) (omega arith);
+            right = in-set t (b .right) (omega arith);
+            both = both-set r (here p q i h g g') z (b .both);
+          };
     }
   where
     here : (p q i : ℕ) → i < m → p ≡ d + i → q ≡ e + i → Cell ld md n (ld * j + p) (md * j + q)

@@ -1,6 +1,6 @@
 -- What two forms with the same n rows, each by its own stride, have alike: the number in a row and column, and which lines apply. Assumes nothing.
 use mathlib.Core.Path.{_≡_, refl, ap}
-use Prim.Native.Nat.{ℕ, zero, suc, _+_, _-_, _*_, _≤_, _<_}
+use Prim.Native.Nat.{ℕ, zero, suc, _+_, _-_, _*_, _<_}
 use native.Mathlib.Omega.{arith}
 use mathlib.Core.Bool.{Bool, false, not}
 use mathlib.Core.List.{List}
@@ -9,7 +9,7 @@ use lib.ListN.{length}
 use lib.Ieee.{Float, Format, ne}
 use borrow.Author.Tests.{eq-eqb}
 use Rattle.model.specs.Arith.{zeroOf}
-use Rattle.model.specs.Form.{place, at, entry, nonzeroBelow, some, line3, line5, line6, deepIn, touchingIn}
+use Rattle.model.specs.Form.{place, at, nonzeroBelow, some, line5, line6, deepIn, touchingIn}
 use Rattle.laws_stride.specs.Strides.{SameRows}
 
 -- ---- a row and column of n, by both strides
@@ -39,17 +39,16 @@ unfolding some
 some-same zero p q h = refl
 some-same (suc n) p q h = rw (some-same n p q (λ i l. h i (omega arith)), h n (omega arith))
 
-pub buffer-line : (ld n : ℕ) (t : List Float) → length t ≡ ld * n → not (eqb (length t) (ld * n)) ≡ false
-buffer-line ld n t e = ap not (eq-eqb (length t) (ld * n) e)
-
-pub length-line : (ld n : ℕ) (t : List Float) → length t ≡ ld * n → line3 ld n t ≡ false
-unfolding line3
-length-line ld n t e = buffer-line ld n t e
+-- a list has the length that is asked for
+pub full : (ld n : ℕ) (t : List Float) → length t ≡ ld * n → not (eqb (length t) (ld * n)) ≡ false
+full ld n t e = ap not (eq-eqb (length t) (ld * n) e)
 
 pub same-line5 : (f : Format) (ld md n : ℕ) (a b : List Float) → SameRows ld md n a b → line5 f ld n a ≡ line5 f md n b
 unfolding line5 deepIn
-same-line5 f ld md n a b s =
-    some-same (n - 2) (deepIn f ld n a) (deepIn f md n b) λ j h. some-same (n - (j + 2)) (λ (k : ℕ). ne (at a (place ld (j + 2) j + k)) (zeroOf f)) (λ (k : ℕ). ne (at b (place md (j + 2) j + k)) (zeroOf f)) λ k g. ap (λ (x : Float). ne x (zeroOf f)) (same-at s (cell (j + 2 + k) j (omega arith) (omega arith) (omega arith) (omega arith)))
+same-line5 f ld md n a b s = some-same (n - 2) (deepIn f ld n a) (deepIn f md n b) λ j h. some-same (n - (j + 2)) _ _ λ k g. ap (λ (x : Float). ne x (zeroOf f)) (deep j k g)
+  where
+    deep : (j k : ℕ) → k < n - (j + 2) → at a (place ld (j + 2) j + k) ≡ at b (place md (j + 2) j + k)
+    deep j k g = same-at s (cell (j + 2 + k) j (omega arith) (omega arith) (omega arith) (omega arith))
 
 pub same-line6 : (f : Format) (ld md n : ℕ) (a b : List Float) → SameRows ld md n a b → line6 f ld n a ≡ line6 f md n b
 unfolding line6 touchingIn

@@ -1,13 +1,12 @@
 -- The two shifted solvers by two strides: what two parts have alike, they have alike when each is solved. Assumes nothing.
 -- The matrices have the same n rows, of which the first m are solved for. P is what the two parts have alike.
-use mathlib.Core.Path.{_≡_, refl, ap}
-use Prim.Native.Nat.{ℕ, suc, _+_, _-_, _*_, _≤_, _<_}
+use mathlib.Core.Path.{_≡_, refl}
+use Prim.Native.Nat.{ℕ, _+_, _-_, _≤_, _<_}
 use native.Mathlib.Omega.{arith}
 use mathlib.Core.List.{List}
 use lib.Ieee.{Float, Format}
-use Rattle.model.specs.Arith.{innerProd}
-use Rattle.model.specs.Form.{place, at, entry}
-use Rattle.model.specs.Vectors.{strided, splitProd, realOne, realTwo, solveReal, Complex, Rows, complexAt, complexSet, cplxOne, cplxRest, solvePair, cplxTwo, solveCplx}
+use Rattle.model.specs.Form.{place, at}
+use Rattle.model.specs.Vectors.{strided, realOne, realTwo, solveReal, Complex, complexSet, cplxOne, cplxRest, cplxTwo, solveCplx}
 use Rattle.laws_stride.specs.Strides.{SameRows}
 use Rattle.laws_stride.proofs.Cells.{same-at, cell}
 use Rattle.laws_stride.proofs.Sums.{Alike, same-inner, same-split}
@@ -63,19 +62,24 @@ module _ (f : Format) (ld md n : ℕ) (a b : List Float) (r : SameRows ld md n a
       cplx-one : (p q norm : Float) (i : ℕ) → i < m → Keeps P (cplxOne f ld a p q norm m i) (cplxOne f md b p q norm m i)
       unfolding cplxOne
       cplx-one p q norm i h x y s =
-          rw
-          (r .same i i (omega arith) (omega arith), number i x y h s, second i x y h s,
+          rw (
+            r .same i i (omega arith) (omega arith),
+            number i x y h s,
+            second i x y h s,
             same-split f _ _ _ _ _ (rest (i + 1) (i + 1) (i + 1) x y u (omega arith) (omega arith) s) (row i (i + 1) h),
-            same-split f _ _ _ _ _ (rest (ld + (i + 1)) (md + (i + 1)) (i + 1) x y u' refl refl s) (row i (i + 1) h))
+            same-split f _ _ _ _ _ (rest (ld + (i + 1)) (md + (i + 1)) (i + 1) x y u' refl refl s) (row i (i + 1) h),
+          )
           (both-parts i _ h x y s)
 
       cplx-rest : (i j : ℕ) (x y : List Float) → i < m → P x y → cplxRest f ld a m x i j ≡ cplxRest f md b m y i j
       unfolding cplxRest
       cplx-rest i j x y h s =
-          rw
-          (number i x y h s, second i x y h s,
+          rw (
+            number i x y h s,
+            second i x y h s,
             same-inner f _ _ _ _ _ (row i j h) (rest j j j x y u (omega arith) (omega arith) s),
-            same-inner f _ _ _ _ _ (row i j h) (rest (ld + j) (md + j) j x y u' refl refl s))
+            same-inner f _ _ _ _ _ (row i j h) (rest (ld + j) (md + j) j x y u' refl refl s),
+          )
 
       cplx-two : (p q norm : Float) (i : ℕ) → i + 1 < m → Keeps P (cplxTwo f ld a p q norm m i) (cplxTwo f md b p q norm m i)
       unfolding cplxTwo

@@ -8,12 +8,12 @@ use lib.Dec.{eqb}
 use lib.ListN.{length}
 use lib.Ieee.{Float, Format, neg, mul}
 use borrow.Author.Tests.{eqb-true, not-false}
-use Rattle.model.specs.Form.{place, at, entry, line2, line17, line3, line5, line6}
-use Rattle.model.specs.Vectors.{negatedRun, realColumn, Start, startOf, startBlock, scaledRuns, openColumns, cplxColumns, formNorm, vectorsOf, Vectors, vectorsLine, evdFromRealSchur}
+use Rattle.model.specs.Form.{entry, line2, line17, line3}
+use Rattle.model.specs.Vectors.{negatedRun, realColumn, Start, startBlock, scaledRuns, openColumns, cplxColumns, formNorm, vectorsOf, Vectors, vectorsLine, evdFromRealSchur}
 use Rattle.laws_moves.proofs.Upper.{at-least}
 use Rattle.laws_stride.specs.Beyond.{BeyondStays}
 use Rattle.laws_stride.specs.Strides.{Allowed, SameRows, SameVectors}
-use Rattle.laws_stride.proofs.Cells.{Cell, cell, same-at, buffer-line, length-line, same-line5, same-line6}
+use Rattle.laws_stride.proofs.Cells.{Cell, cell, same-at, full, same-line5, same-line6}
 use Rattle.laws_stride.proofs.Sums.{same-norm}
 use Rattle.laws_stride.proofs.Both.{Room, Both, both-set, Keeps, blocks, Twin, Column, column, on-part}
 use Rattle.laws_stride.proofs.Solve.{solve-real, solve-cplx}
@@ -77,10 +77,10 @@ stays : (ld n : ℕ) (v : List Float) → BeyondStays ld n v v
 stays ld n v = record { size = refl; beyond = λ i j g h. refl }
 
 same-line : (f : Format) (ld md n : ℕ) (a b v w : List Float) → Allowed ld md n → SameRows ld md n a b → SameRows ld md n v w → vectorsLine f ld n a v ≡ vectorsLine f md n b w
-unfolding vectorsLine
+unfolding vectorsLine line3
 same-line f ld md n a b v w p r s =
     rw
-    (p .first, p .second, length-line ld n a (r .size), length-line md n b (r .size'), buffer-line ld n v (s .size), buffer-line md n w (s .size'), same-line5 f ld md n a b r, same-line6 f ld md n a b r)
+    (p .first, p .second, full ld n a (r .size), full md n b (r .size'), full ld n v (s .size), full md n w (s .size'), same-line5 f ld md n a b r, same-line6 f ld md n a b r)
 
 pub same-vectors : (f : Format) (ld md n : ℕ) (a b v w : List Float) → Allowed ld md n → SameRows ld md n a b → SameRows ld md n v w
     → SameVectors ld md n (evdFromRealSchur f ld n a v) (evdFromRealSchur f md n b w)
