@@ -81,7 +81,15 @@ fn any_crosses(t: &[f64], ld: usize, n: usize, j: usize, n1: usize, n2: usize) -
 }
 
 // Lines 2, 17 and 3 to 10 of an exchange.
-pub fn exchange_line(ld: usize, n: usize, t: &[f64], u: &[f64], j0: usize, n1: usize, n2: usize) -> usize
+pub fn exchange_line(
+    ld: usize,
+    n: usize,
+    t: &[f64],
+    u: &[f64],
+    j0: usize,
+    n1: usize,
+    n2: usize,
+) -> usize
     ensures { λ r. ⌜ r ≡ Exchange.exchangeLine binary64 ld n (now (t .entry)) (now (u .entry)) j0 n1 n2 ⌝ }
 {
     let line = accept_line(ld, n, t, u);
