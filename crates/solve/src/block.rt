@@ -2,25 +2,23 @@
 ghost use mathlib.Core.Path.{_≡_};
 ghost use mathlib.Core.Bool.{Bool, cond};
 ghost use Prim.Native.Nat.{_+_, _-_, _*_, _<_, _≤_};
-ghost use lib.Dec.{eqb};
 ghost use lib.Ieee.{binary64};
 ghost use Rattle.model.specs.Form.{entry};
 ghost use Rattle.model.specs.Move as Move;
 ghost use Rattle.model.specs.Values as Values;
+ghost use Rattle.form.specs.Lines.{before4};
 ghost use Rattle.solve.specs.Sizes.{Square};
 use arith::real::abs;
+use form::lines::before_4;
 use form::place;
 use root::sqrt::sqrt;
 
 // The first line that applies, of the line of a form alone and of a further buffer's length.
 pub fn with_further(line: usize, wrong: bool) -> usize
-    ensures { λ r. ⌜ r ≡ cond (eqb line 2) 2 (cond (eqb line 3) 3 (cond wrong 4 line)) ⌝ }
+    ensures { λ r. ⌜ r ≡ cond (before4 line) line (cond wrong 4 line) ⌝ }
 {
-    if line == 2 {
-        return 2;
-    }
-    if line == 3 {
-        return 3;
+    if before_4(line) {
+        return line;
     }
     if wrong { 4 } else { line }
 }

@@ -7,7 +7,7 @@ deep-requires : tie.Need-deep-requires
 deep-requires c κs = search needs
 
 touching-requires : tie.Need-touching-requires
-touching-requires c κs = let s = c .before .before .pre in record { small = s .0; whole = s .1 }
+touching-requires c κs = search needs
 
 returns : tie.Need-returns
 returns c = let s = c .before in rw (← s .before .deep .ensures, c .if1 .taken)

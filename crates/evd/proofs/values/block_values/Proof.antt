@@ -27,9 +27,9 @@ all-values-requires c κs =
     let r = eqb (length (s .re .now)) (s .n) in
     let m = eqb (length (s .im .now)) (s .n) in
     let a = accepted binary64 _ _ _ _ (sym (l .values-line .ensures) ∙ i .if1 .left) in (
-      (omega (arith, a .small), a .small, omega arith, a .whole),
-      eqb-true _ _ (not-false r (first (not r) (not m) (a .fits))),
-      eqb-true _ _ (not-false m (second (not r) (not m) (a .fits))),
+      a .whole,
+      eqb-true _ _ (not-false r (first (not r) (not m) (a .right))),
+      eqb-true _ _ (not-false m (second (not r) (not m) (a .right))),
     )
 
 same-length : tie.Need-same-length

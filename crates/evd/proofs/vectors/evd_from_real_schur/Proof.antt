@@ -22,7 +22,7 @@ all-columns-requires c κs =
     let i = c .before in
     let l = i .before in
     let a = accepted binary64 _ _ _ _ (sym (l .vectors-line .ensures) ∙ i .if1 .left) in
-    ((omega (arith, a .small), a .small, omega arith, a .whole), eqb-true _ _ (not-false _ (a .fits)))
+    (a .whole, eqb-true _ _ (not-false _ (a .right)))
 
 same-length : tie.Need-same-length
 same-length c = search needs
