@@ -12,3 +12,4 @@ pub mod Sums
 pub mod Both
 pub mod Solve
 pub mod Vectors
+pub mod Strides
