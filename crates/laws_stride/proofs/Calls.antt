@@ -9,7 +9,7 @@ use lib.Dec.{eqb}
 use lib.ListN.{length, length-set}
 use lib.Ieee.{Float, nan, Format}
 use borrow.Author.Tests.{eqb-true, ne-eqb}
-use Rattle.model.specs.Form.{place, at, entry}
+use Rattle.model.specs.Form.{place, at}
 use Rattle.model.specs.Columns.{onFactor}
 use Rattle.model.specs.Swaps.{Change, declinesIn, put}
 use Rattle.model.specs.Exchange.{exchange, factorRows, Exchanged, exchanged, exchangeLine, exchangeCall}
@@ -17,9 +17,11 @@ use Rattle.model.specs.Move.{move, Moved, moved, moveLine, moveCall}
 use Rattle.laws_moves.proofs.Upper.{at-least}
 use Rattle.laws_stride.specs.Beyond.{BeyondStays}
 use Rattle.laws_stride.specs.Strides.{Allowed, SameRows, SameFactor, SameMoved, SameExchanged}
-use Rattle.laws_stride.proofs.Put.{put-same, put-beyond}
-use Rattle.laws_stride.proofs.Operations.{Rowwise, on-factor}
-use Rattle.laws_stride.proofs.Changes.{branch, Alike, zero-same, alike-unchanged, alike-then, alike-exchange}
+use Rattle.laws_stride.proofs.Put.{put-same}
+use Rattle.laws_stride.proofs.Tests.{branch}
+use Rattle.laws_stride.proofs.Rowwise.{ReadsAs, Rowwise, rows-read, same-rowwise, Kept, kept-first, kept-rowwise}
+use Rattle.laws_stride.proofs.Operations.{on-factor}
+use Rattle.laws_stride.proofs.Changes.{Alike, alike-unchanged, alike-then, alike-exchange}
 use Rattle.laws_stride.proofs.Walk.{Exchanges, move-beside}
 use Rattle.laws_stride.proofs.Lines.{move-line-same, exchange-line-same, move-passed, exchange-passed}
 
@@ -48,9 +50,9 @@ rows-most n u = go (eqb (length u) 0)
     go false = omega arith
 
 -- the walk of two moves is over such changes
-pub walks : (f : Format) (ld md n : ℕ) (R : List Float → List Float → Type 0) → Rowwise ld md n R → Exchanges f ld md n (Alike n R)
+walks : (f : Format) (ld md n : ℕ) (R : List Float → List Float → Type 0) → Rowwise ld md n R → Exchanges f ld md n (Alike n R)
 walks f ld md n R k =
-    record { zeros = λ j h q. zero-same f ld md n R k j h (q .forms); more = λ j n1 n2 w q. alike-then f ld md n R k _ _ q (alike-exchange f ld md n R k j n1 n2 w) }
+    record { reads = λ q. k .reads (q .forms); more = λ j n1 n2 w q. alike-then f ld md n R k _ _ q (alike-exchange f ld md n R k j n1 n2 w) }
 
 module _ (f : Format) (ld md n : ℕ) (a b u v : List Float) (R S : List Float → List Float → Type 0) (K : n ≤ ld → Rowwise ld md n R × Rowwise ld md n S) (r : R a b) (s : S u v) (rows : factorRows n u ≡ factorRows n v) where
   factor-both : {c d : Change} → Rowwise ld md n S → Alike n R c d → S (onFactor f ld (factorRows n u) (c .operations) u) (onFactor f md (factorRows n v) (d .operations) v)
@@ -104,19 +106,16 @@ module _ (ld md n : ℕ) (w : Allowed ld md n) where
   fits' : n ≤ md
   fits' = at-least md n (w .second)
 
-  pub form-rowwise : Rowwise ld md n (SameRows ld md n)
-  form-rowwise = record { reads = λ i j g h s. s .same i j g h; puts = λ i j v g h s. put-same ld md n i j v _ _ fits fits' g h s }
-
-  factor-reads : (u v : List Float) (i j : ℕ) → i < n → j < n → SameFactor ld md n u v → entry ld u i j ≡ entry md v i j
-  factor-reads u v i j g h (inl s) = s .same i j g h
-  factor-reads u v i j g h (inr s) = at-empty u _ (s .0) ∙ sym (at-empty v _ (s .1))
+  factor-reads : (u v : List Float) → SameFactor ld md n u v → ReadsAs ld md n u v
+  factor-reads u v (inl s) = rows-read s
+  factor-reads u v (inr s) = record { same = λ i j g h. at-empty u _ (s .0) ∙ sym (at-empty v _ (s .1)) }
 
   factor-puts : (u v : List Float) (i j : ℕ) (x : Float) → i < n → j < n → SameFactor ld md n u v → SameFactor ld md n (put ld i j x u) (put md i j x v)
   factor-puts u v i j x g h (inl s) = inl (put-same ld md n i j x u v fits fits' g h s)
   factor-puts u v i j x g h (inr s) = inr (length-set u (place ld i j) x ∙ s .0, length-set v (place md i j) x ∙ s .1)
 
   both-rowwise : Rowwise ld md n (SameRows ld md n) × Rowwise ld md n (SameFactor ld md n)
-  both-rowwise = (form-rowwise, record { reads = λ i j g h s. factor-reads _ _ i j g h s; puts = λ i j v g h s. factor-puts _ _ i j v g h s })
+  both-rowwise = (same-rowwise ld md n w, record { reads = λ s. factor-reads _ _ s; puts = λ i j v g h s. factor-puts _ _ i j v g h s })
 
   same-rows : (u v : List Float) → SameFactor ld md n u v → factorRows n u ≡ factorRows n v
   same-rows u v (inl s) = rows-all ld n u fits (s .size) ∙ sym (rows-all md n v fits' (s .size'))
@@ -127,7 +126,7 @@ pub moves : (f : Format) (ld md n : ℕ) (a b u v : List Float) (from to : ℕ) 
 moves f ld md n a b u v from to w s t =
     let k = both-rowwise ld md n w in
     let r =
-    move-both f ld md n a b u v (SameRows ld md n) (SameFactor ld md n) (λ _. k) s t (same-rows ld md n w u v t) from to (move-line-same f ld md n a b u v w (k .0) s t from to) in
+    move-both f ld md n a b u v (SameRows ld md n) (SameFactor ld md n) (λ _. k) s t (same-rows ld md n w u v t) from to (move-line-same f ld md n a b u v w s t from to) in
     record { answer = r .answer; landed = r .landed; swaps = r .swaps; declined = r .declined; form = r .form; factor = r .factor }
 
 pub exchanges : (f : Format) (ld md n : ℕ) (a b u v : List Float) (j n1 n2 : ℕ) → Allowed ld md n → SameRows ld md n a b → SameFactor ld md n u v
@@ -135,25 +134,10 @@ pub exchanges : (f : Format) (ld md n : ℕ) (a b u v : List Float) (j n1 n2 : �
 exchanges f ld md n a b u v j n1 n2 w s t =
     let k = both-rowwise ld md n w in
     let r =
-    exchange-both f ld md n a b u v (SameRows ld md n) (SameFactor ld md n) (λ _. k) s t (same-rows ld md n w u v t) j n1 n2 (exchange-line-same f ld md n a b u v w (k .0) s t j n1 n2) in
+    exchange-both f ld md n a b u v (SameRows ld md n) (SameFactor ld md n) (λ _. k) s t (same-rows ld md n w u v t) j n1 n2 (exchange-line-same f ld md n a b u v w s t j n1 n2) in
     record { answer = r .answer; swaps = r .swaps; declined = r .declined; form = r .form; factor = r .factor }
 
 -- ---- rows beyond n
-
--- one list, twice, with the rows from n on as in o
-record Kept (ld n : ℕ) (o a b : List Float) : Type 0 where
-  same : a ≡ b
-  stays : BeyondStays ld n o a
-
-kept-first : (ld n : ℕ) (o : List Float) → Kept ld n o o o
-kept-first ld n o = record { same = refl; stays = record { size = refl; beyond = λ i j g h. refl } }
-
-kept-rowwise : (ld n : ℕ) (o : List Float) → n ≤ ld → Rowwise ld ld n (Kept ld n o)
-kept-rowwise ld n o w =
-    record {
-      reads = λ i j g h s. ap (λ (t : List Float). entry ld t i j) (s .same);
-      puts = λ i j v g h s. record { same = ap (put ld i j v) (s .same); stays = put-beyond ld n i j v o _ w g (s .stays) };
-    }
 
 module _ (f : Format) (ld n : ℕ) (t u : List Float) where
   move-kept : (from to : ℕ) → MovedBoth (Kept ld n t) (Kept ld n u) (moveCall f ld n t u from to) (moveCall f ld n t u from to)

@@ -1,35 +1,20 @@
--- Two forms in a relation that goes by their n rows, as in Operations. The four swaps, standardising, and the exchange of rows below n do the same operations and runs on both, and keep the relation. Assumes nothing.
-use mathlib.Core.Path.{_≡_, refl, sym, ap, ap₂}
+-- Two forms in a relation that goes by their n rows. The four swaps, standardising, and the exchange of rows below n do the same operations and runs on both, and keep the relation. Assumes nothing.
+use mathlib.Core.Path.{_≡_, refl, ap₂}
 use Prim.Native.Nat.{ℕ, zero, suc, _+_, _≤_, _<_}
 use native.Mathlib.Omega.{arith}
-use mathlib.Core.Bool.{Bool, true, false, _&&_, cond, true≢false}
+use mathlib.Core.Bool.{_&&_}
 use mathlib.Core.List.{List, _++_}
 use lib.Dec.{eqb}
-use lib.Ieee.{Float, Format, eq}
+use lib.Ieee.{Float, Format}
 use borrow.Author.Tests.{eqb-true, eqb-false}
 use Rattle.model.specs.Arith.{zeroOf}
 use Rattle.model.specs.Form.{zeroBelow}
 use Rattle.model.specs.Columns.{Operation}
 use Rattle.model.specs.Swaps.{Change, unchanged, swapped, andThen, rotation11, swap11, reflectors12, swap12, reflectors21, swap21, windowColumn, windowAt, reflectors4, solutionOf, declines, swap22By, swap22, swapOf, blockAt, standardise}
 use Rattle.model.specs.Exchange.{standardiseIf, exchangeWhole, exchangeBy, exchange}
-use Rattle.laws_stride.proofs.Operations.{Rowwise, Inside, AllInside, inside-append, puts-same, on-form}
-
--- two tests under one guard
-pub guarded : (a x y : Bool) → (a ≡ true → x ≡ y) → (a && x) ≡ (a && y)
-guarded true x y h = h refl
-guarded false x y h = refl
-
-pub both-true : (a b : Bool) → (a && b) ≡ true → (a ≡ true) × (b ≡ true)
-both-true true b h = (refl, h)
-both-true false b h = absurd (true≢false (sym h))
-
-pub is-two : (k : ℕ) (b : Bool) → (eqb k 2 && b) ≡ true → k ≡ 2
-is-two k b h = eqb-true k 2 (both-true (eqb k 2) b h .0)
-
--- the same way on both sides
-pub branch : {A B : Type 0} (P : A → B → Type 0) (b : Bool) {b' : Bool} {x x' : A} {y y' : B} → b ≡ b' → (b ≡ true → P x y) → (b ≡ false → P x' y') → P (cond b x x') (cond b' y y')
-branch P true e h k = rw (← e) (h refl)
-branch P false e h k = rw (← e) (k refl)
+use Rattle.laws_stride.proofs.Tests.{guarded, is-two, branch}
+use Rattle.laws_stride.proofs.Rowwise.{Rowwise, zero-same, cell, set-at}
+use Rattle.laws_stride.proofs.Operations.{Inside, AllInside, inside-append, on-form}
 
 -- the n1 rows from row j on and the n2 below them, one or two each, are below n
 pub record Room (n j n1 n2 : ℕ) : Type 0 where
@@ -50,11 +35,6 @@ pub record Alike (n : ℕ) (R : List Float → List Float → Type 0) (c d : Cha
   pub runs : c .runs ≡ d .runs
 
 module _ (f : Format) (ld md n : ℕ) (R : List Float → List Float → Type 0) (K : Rowwise ld md n R) where
-  -- ---- what is read
-
-  pub zero-same : {a b : List Float} (j : ℕ) → j + 1 < n → R a b → zeroBelow f ld a j ≡ zeroBelow f md b j
-  zero-same j h r = ap (λ (x : Float). eq x (zeroOf f)) (K .reads (j + 1) j h (omega arith) r)
-
   -- ---- nothing, and one change after another
 
   pub alike-unchanged : {a b : List Float} → R a b → Alike n R (unchanged a) (unchanged b)
@@ -83,7 +63,7 @@ module _ (f : Format) (ld md n : ℕ) (R : List Float → List Float → Type 0)
     unfolding rotation11
     rotation11-same h =
         let p : j < n = omega arith in
-        rw (K .reads j (j + 1) p h r, K .reads (j + 1) (j + 1) h h r, K .reads j j p p r)
+        rw (K .reads r .same j (j + 1) p h, K .reads r .same (j + 1) (j + 1) h h, K .reads r .same j j p p)
 
     alike11 : j + 1 < n → Alike n R (swap11 f ld n j a) (swap11 f md n j b)
     unfolding swap11 Inside
@@ -91,14 +71,14 @@ module _ (f : Format) (ld md n : ℕ) (R : List Float → List Float → Type 0)
         rw (rotation11-same h)
         (alike-swapped j 1 1 _ (omega arith, h)
         (on-form f ld md n R K (j + 2) j _ (omega arith) (omega arith, h)
-        (puts-same f ld md n R K j j (omega arith) (omega arith) (K .reads (j + 1) (j + 1) h h r) (puts-same f ld md n R K (j + 1) (j + 1) h h (K .reads j j (omega arith) (omega arith) r) r))))
+        (set-at K (cell j j (omega arith) (omega arith) refl refl) (K .reads r .same (j + 1) (j + 1) h h) (set-at K (cell (j + 1) (j + 1) h h refl refl) (K .reads r .same j j (omega arith) (omega arith)) r))))
 
     reflectors12-same : j + 2 < n → reflectors12 f ld a j ≡ reflectors12 f md b j
     unfolding reflectors12
     reflectors12-same h =
         let p : j < n = omega arith in
         let q : j + 1 < n = omega arith in
-        rw (K .reads j (j + 1) p q r, K .reads (j + 1) (j + 1) q q r, K .reads j j p p r, K .reads (j + 2) (j + 1) h q r, K .reads j (j + 2) p h r, K .reads (j + 1) (j + 2) q h r, K .reads (j + 2) (j + 2) h h r)
+        rw (K .reads r .same j (j + 1) p q, K .reads r .same (j + 1) (j + 1) q q, K .reads r .same j j p p, K .reads r .same (j + 2) (j + 1) h q, K .reads r .same j (j + 2) p h, K .reads r .same (j + 1) (j + 2) q h, K .reads r .same (j + 2) (j + 2) h h)
 
     alike12 : j + 2 < n → Alike n R (swap12 f ld n j a) (swap12 f md n j b)
     unfolding swap12 Inside
@@ -113,7 +93,7 @@ module _ (f : Format) (ld md n : ℕ) (R : List Float → List Float → Type 0)
     reflectors21-same h =
         let p : j < n = omega arith in
         let q : j + 1 < n = omega arith in
-        rw (K .reads (j + 1) (j + 2) q h r, K .reads (j + 1) (j + 1) q q r, K .reads (j + 2) (j + 2) h h r, K .reads (j + 1) j q p r, K .reads j (j + 2) p h r, K .reads j (j + 1) p q r, K .reads j j p p r)
+        rw (K .reads r .same (j + 1) (j + 2) q h, K .reads r .same (j + 1) (j + 1) q q, K .reads r .same (j + 2) (j + 2) h h, K .reads r .same (j + 1) j q p, K .reads r .same j (j + 2) p h, K .reads r .same j (j + 1) p q, K .reads r .same j j p p)
 
     alike21 : j + 2 < n → Alike n R (swap21 f ld n j a) (swap21 f md n j b)
     unfolding swap21 Inside
@@ -125,7 +105,7 @@ module _ (f : Format) (ld md n : ℕ) (R : List Float → List Float → Type 0)
 
     column-same : (col : ℕ) → j + 3 < n → col < n → windowColumn ld a j col ≡ windowColumn md b j col
     unfolding windowColumn
-    column-same col h g = rw (K .reads j col (omega arith) g r, K .reads (j + 1) col (omega arith) g r, K .reads (j + 2) col (omega arith) g r, K .reads (j + 3) col (omega arith) g r)
+    column-same col h g = rw (K .reads r .same j col (omega arith) g, K .reads r .same (j + 1) col (omega arith) g, K .reads r .same (j + 2) col (omega arith) g, K .reads r .same (j + 3) col (omega arith) g)
 
     window-same : j + 3 < n → windowAt ld a j ≡ windowAt md b j
     unfolding windowAt
@@ -148,7 +128,7 @@ module _ (f : Format) (ld md n : ℕ) (R : List Float → List Float → Type 0)
     unfolding blockAt
     block-same h =
         let p : j < n = omega arith in
-        cc (K .reads j j p p r, K .reads j (j + 1) p h r, K .reads (j + 1) j h p r, K .reads (j + 1) (j + 1) h h r)
+        cc (K .reads r .same j j p p, K .reads r .same j (j + 1) p h, K .reads r .same (j + 1) j h p, K .reads r .same (j + 1) (j + 1) h h)
 
     alike-standardise : j + 1 < n → Alike n R (standardise f ld n j a) (standardise f md n j b)
     unfolding standardise Inside AllInside
@@ -188,9 +168,9 @@ module _ (f : Format) (ld md n : ℕ) (R : List Float → List Float → Type 0)
   unfolding exchangeBy
   alike-by zero j n1 n2 w r = alike-unchanged r
   alike-by (suc k) j n1 n2 {a} w r =
-      branch (Alike n R) (eqb n1 2 && zeroBelow f ld a j) (guarded (eqb n1 2) _ _ (λ _. zero-same j (omega arith) r))
+      branch (Alike n R) (eqb n1 2 && zeroBelow f ld a j) (guarded (eqb n1 2) _ _ (λ _. zero-same f j (omega arith) (K .reads r)))
       (λ e. let q = is-two n1 _ e in alike-then _ _ (alike-by k (j + 1) 1 n2 (room (omega arith) (omega arith) (omega arith) (omega arith) (omega arith)) r) (alike-by k j 1 n2 (room (omega arith) (omega arith) (omega arith) (omega arith) (omega arith))))
-      (λ _. branch (Alike n R) (eqb n2 2 && zeroBelow f ld a (j + n1)) (guarded (eqb n2 2) _ _ (λ e. let q = eqb-true n2 2 e in zero-same (j + n1) (omega arith) r))
+      (λ _. branch (Alike n R) (eqb n2 2 && zeroBelow f ld a (j + n1)) (guarded (eqb n2 2) _ _ (λ e. let q = eqb-true n2 2 e in zero-same f (j + n1) (omega arith) (K .reads r)))
       (λ e. let q = is-two n2 _ e in alike-then _ _ (alike-by k j n1 1 (room (omega arith) (omega arith) (omega arith) (omega arith) (omega arith)) r) (alike-by k (j + 1) n1 1 (room (omega arith) (omega arith) (omega arith) (omega arith) (omega arith))))
       (λ _. alike-whole j n1 n2 w r))
 

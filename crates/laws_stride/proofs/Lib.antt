@@ -1,15 +1,16 @@
 -- The proofs about strides.
+pub mod Base
 pub mod Put
+pub mod Rowwise
+pub mod Tests
+pub mod Lines
 pub mod Operations
 pub mod Changes
 pub mod Walk
-pub mod Lines
 pub mod Calls
-pub mod Base
-pub mod Cells
 pub mod Values
 pub mod Sums
-pub mod Both
+pub mod Keeps
 pub mod Solve
 pub mod Vectors
 pub mod Strides

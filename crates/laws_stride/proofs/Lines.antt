@@ -1,4 +1,4 @@
--- The lines of a call. Of two forms in a relation that goes by their n rows, the lines about entries apply to both or to neither; and where no line is told, the stride has room and the rows named are below n. Assumes nothing.
+-- The lines of a call. The lines about entries apply to both of two forms whose n rows read alike, or to neither; and where no line is told, the stride has room and the rows named are below n. Assumes nothing.
 use mathlib.Core.Path.{_≡_, refl, sym, ap, ap₂}
 use mathlib.Core.Logic.{inl, inr}
 use Prim.Native.Nat.{ℕ, zero, suc, _+_, _-_, _*_, _≤_, _<_}
@@ -10,13 +10,15 @@ use lib.ListN.{length}
 use lib.Ieee.{Float, Format, ne}
 use borrow.Author.Tests.{ltb-true, ltb-false, eqb-true, eq-eqb, not-false}
 use Rattle.model.specs.Arith.{zeroOf}
-use Rattle.model.specs.Form.{place, at, nonzeroBelow, twoBlock, some, line2, line17, line3, line4, deepIn, line5, touchingIn, line6, line7}
+use Rattle.model.specs.Form.{place, at, twoBlock, some, line2, line17, line3, line4, deepIn, line5, touchingIn, line6, line7}
 use Rattle.model.specs.Exchange.{line8, line9, crosses, line10, exchangeLine}
 use Rattle.model.specs.Move.{moveLine}
+use Rattle.laws.proofs.InOrder.{passed}
 use Rattle.laws_moves.proofs.Upper.{at-least}
 use Rattle.laws_stride.specs.Strides.{Allowed, SameRows, SameFactor}
-use Rattle.laws_stride.proofs.Operations.{Rowwise}
-use Rattle.laws_stride.proofs.Changes.{guarded, both-true, Room, room}
+use Rattle.laws_stride.proofs.Tests.{guarded, both-true}
+use Rattle.laws_stride.proofs.Rowwise.{ReadsAs, nonzero-same, cell, same-at, rows-read}
+use Rattle.laws_stride.proofs.Changes.{Room, room}
 
 -- ---- entries
 
@@ -25,19 +27,13 @@ unfolding some
 some-same zero p q h = refl
 some-same (suc k) p q h = ap₂ _||_ (some-same k p q (λ i l. h i (omega arith))) (h k (omega arith))
 
-module _ (f : Format) (ld md n : ℕ) (R : List Float → List Float → Type 0) (K : Rowwise ld md n R) {a b : List Float} (r : R a b) where
-  nonzero-same : (j : ℕ) → j + 1 < n → nonzeroBelow f ld a j ≡ nonzeroBelow f md b j
-  nonzero-same j h = ap (λ (x : Float). ne x (zeroOf f)) (K .reads (j + 1) j h (omega arith) r)
-
+module _ (f : Format) (ld md n : ℕ) {a b : List Float} (r : ReadsAs ld md n a b) where
   deep-same : (j : ℕ) → deepIn f ld n a j ≡ deepIn f md n b j
   unfolding deepIn
   deep-same j = some-same (n - (j + 2)) _ _ (λ k h. ap (λ (x : Float). ne x (zeroOf f)) (go k h))
     where
       go : (k : ℕ) → k < n - (j + 2) → at a (place ld (j + 2) j + k) ≡ at b (place md (j + 2) j + k)
-      go k h =
-          let p : place ld (j + 2) j + k ≡ place ld (j + 2 + k) j = omega arith in
-          let q : place md (j + 2) j + k ≡ place md (j + 2 + k) j = omega arith in
-          rw (p, q) (K .reads (j + 2 + k) j (omega arith) (omega arith) r)
+      go k h = same-at r (cell (j + 2 + k) j (omega arith) (omega arith) (omega arith) (omega arith))
 
   pub line5-same : line5 f ld n a ≡ line5 f md n b
   unfolding line5
@@ -45,11 +41,11 @@ module _ (f : Format) (ld md n : ℕ) (R : List Float → List Float → Type 0)
 
   pub line6-same : line6 f ld n a ≡ line6 f md n b
   unfolding line6 touchingIn
-  line6-same = some-same (n - 2) _ _ (λ j h. ap₂ _&&_ (nonzero-same j (omega arith)) (nonzero-same (j + 1) (omega arith)))
+  line6-same = some-same (n - 2) _ _ (λ j h. ap₂ _&&_ (nonzero-same f j (omega arith) r) (nonzero-same f (j + 1) (omega arith) r))
 
   crosses-same : (e : ℕ) → crosses f ld n a e ≡ crosses f md n b e
   unfolding crosses twoBlock
-  crosses-same e = ap (λ (x : Bool). ltb 0 e && x) (guarded (ltb (e - 1 + 1) n) _ _ (λ h. nonzero-same (e - 1) (ltb-true _ n h)))
+  crosses-same e = ap (λ (x : Bool). ltb 0 e && x) (guarded (ltb (e - 1 + 1) n) _ _ (λ h. nonzero-same f (e - 1) (ltb-true _ n h) r))
 
   pub line10-same : (j n1 n2 : ℕ) → line10 f ld n a j n1 n2 ≡ line10 f md n b j n1 n2
   unfolding line10
@@ -57,13 +53,9 @@ module _ (f : Format) (ld md n : ℕ) (R : List Float → List Float → Type 0)
 
 -- ---- lengths
 
-no-line3 : (ld n : ℕ) (t : List Float) → length t ≡ ld * n → line3 ld n t ≡ false
-unfolding line3
-no-line3 ld n t e = rw (eq-eqb (length t) (ld * n) e)
-
-full : (ld n : ℕ) (u : List Float) → length u ≡ ld * n → line4 ld n u ≡ false
-unfolding line4
-full ld n u e = rw (eq-eqb (length u) (ld * n) e)
+-- a list has the length that is asked for
+pub full : (ld n : ℕ) (t : List Float) → length t ≡ ld * n → not (eqb (length t) (ld * n)) ≡ false
+full ld n t e = ap not (eq-eqb (length t) (ld * n) e)
 
 empty : (ld n : ℕ) (u : List Float) → length u ≡ 0 → line4 ld n u ≡ false
 unfolding line4
@@ -74,7 +66,8 @@ empty ld n u e = rw e (go (eqb 0 (ld * n)))
     go false = refl
 
 no-line4 : (ld md n : ℕ) (u v : List Float) → SameFactor ld md n u v → (line4 ld n u ≡ false) × (line4 md n v ≡ false)
-no-line4 ld md n u v (inl s) = (full ld n u (s .size), full md n v (s .size'))
+unfolding line4
+no-line4 ld md n u v (inl s) = (rw (eq-eqb (length u) (ld * n) (s .size)), rw (eq-eqb (length v) (md * n) (s .size')))
 no-line4 ld md n u v (inr s) = (empty ld n u (s .0), empty md n v (s .1))
 
 -- ---- the lines of two calls
@@ -83,12 +76,12 @@ no-line4 ld md n u v (inr s) = (empty ld n u (s .0), empty md n v (s .1))
 formLines : Format → ℕ → ℕ → List Float → List Float → ℕ → ℕ
 formLines f ld n t u rest = cond (line2 n) 2 (cond (line17 ld n) 17 (cond (line3 ld n t) 3 (cond (line4 ld n u) 4 (cond (line5 f ld n t) 5 (cond (line6 f ld n t) 6 rest)))))
 
-module _ (f : Format) (ld md n : ℕ) (a b u v : List Float) (w : Allowed ld md n) (K : Rowwise ld md n (SameRows ld md n)) (s : SameRows ld md n a b) (t : SameFactor ld md n u v) where
+module _ (f : Format) (ld md n : ℕ) (a b u v : List Float) (w : Allowed ld md n) (s : SameRows ld md n a b) (t : SameFactor ld md n u v) where
   lines-same : (k l : ℕ) → k ≡ l → formLines f ld n a u k ≡ formLines f md n b v l
-  unfolding formLines
+  unfolding formLines line3
   lines-same k l e =
       let x = no-line4 ld md n u v t in
-      rw (w .first, w .second, no-line3 ld n a (s .size), no-line3 md n b (s .size'), x .0, x .1, line5-same f ld md n _ K s, line6-same f ld md n _ K s, e)
+      rw (w .first, w .second, full ld n a (s .size), full md n b (s .size'), x .0, x .1, line5-same f ld md n (rows-read s), line6-same f ld md n (rows-read s), e)
 
   pub move-line-same : (from to : ℕ) → moveLine f ld n a u from to ≡ moveLine f md n b v from to
   unfolding moveLine formLines
@@ -96,13 +89,9 @@ module _ (f : Format) (ld md n : ℕ) (a b u v : List Float) (w : Allowed ld md 
 
   pub exchange-line-same : (j n1 n2 : ℕ) → exchangeLine f ld n a u j n1 n2 ≡ exchangeLine f md n b v j n1 n2
   unfolding exchangeLine formLines
-  exchange-line-same j n1 n2 = lines-same _ _ (rw (line10-same f ld md n _ K s j n1 n2))
+  exchange-line-same j n1 n2 = lines-same _ _ (rw (line10-same f ld md n (rows-read s) j n1 n2))
 
 -- ---- what no line turns away
-
-passed : (b : Bool) (k rest : ℕ) → cond b (suc k) rest ≡ 0 → (b ≡ false) × (rest ≡ 0)
-passed true k rest h = absurd (omega arith)
-passed false k rest h = (refl, h)
 
 below : (n p : ℕ) → line7 n p ≡ false → p < n
 unfolding line7

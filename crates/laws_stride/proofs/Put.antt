@@ -1,6 +1,6 @@
 -- A number put in the same row and column of two forms, each by its own stride: the n rows stay the same, and no row from n on is touched. Assumes nothing.
-use mathlib.Core.Path.{_≡_, refl, sym, _∙_}
-use Prim.Native.Nat.{ℕ, suc, _+_, _*_, _≤_, _<_}
+use mathlib.Core.Path.{_≡_, sym, _∙_}
+use Prim.Native.Nat.{ℕ, suc, _*_, _≤_, _<_}
 use native.Mathlib.Nat.{mul-le-mul-left}
 use native.Mathlib.Decide.{ℕ-discrete}
 use native.Mathlib.Omega.{arith}
@@ -8,7 +8,7 @@ use mathlib.Core.List.{List}
 use lib.ListN.{length, length-set}
 use lib.Seq.{getD-set-same, getD-set-other}
 use lib.Ieee.{Float}
-use Rattle.model.specs.Form.{place, at, entry}
+use Rattle.model.specs.Form.{place, entry}
 use Rattle.model.specs.Swaps.{put}
 use Rattle.laws_moves.proofs.Places.{apart}
 use Rattle.laws_stride.specs.Beyond.{BeyondStays}

@@ -7,18 +7,17 @@ use mathlib.Core.List.{List}
 use lib.Ieee.{Float, Format}
 use Rattle.model.specs.Form.{place, at}
 use Rattle.model.specs.Vectors.{strided, realOne, realTwo, solveReal, Complex, complexSet, cplxOne, cplxRest, cplxTwo, solveCplx}
-use Rattle.laws_stride.specs.Strides.{SameRows}
-use Rattle.laws_stride.proofs.Cells.{same-at, cell}
-use Rattle.laws_stride.proofs.Sums.{Alike, same-inner, same-split}
-use Rattle.laws_stride.proofs.Both.{Keeps, blocks, Column}
+use Rattle.laws_stride.proofs.Rowwise.{ReadsAs, cell, same-at}
+use Rattle.laws_stride.proofs.Sums.{Agree, same-inner, same-split}
+use Rattle.laws_stride.proofs.Keeps.{Keeps, blocks, Column}
 
-module _ (f : Format) (ld md n : ℕ) (a b : List Float) (r : SameRows ld md n a b) (m : ℕ) (w : m ≤ n) (P : List Float → List Float → Type 0) where
+module _ (f : Format) (ld md n : ℕ) {a b : List Float} (r : ReadsAs ld md n a b) (m : ℕ) (w : m ≤ n) (P : List Float → List Float → Type 0) where
   -- row i of the matrices from column j on
-  row : (i j : ℕ) → i < m → Alike (m - j) (strided a (place ld i j) ld) (strided b (place md i j) md)
+  row : (i j : ℕ) → i < m → Agree (m - j) (strided a (place ld i j) ld) (strided b (place md i j) md)
   row i j h c g = same-at r (cell i (j + c) (omega arith) (omega arith) (omega arith) (omega arith))
 
   -- the unknowns of a column from row j on
-  rest : {d e : ℕ} (p q j : ℕ) (x y : List Float) → Column m d e P → p ≡ d + j → q ≡ e + j → P x y → Alike (m - j) (strided x p 1) (strided y q 1)
+  rest : {d e : ℕ} (p q j : ℕ) (x y : List Float) → Column m d e P → p ≡ d + j → q ≡ e + j → P x y → Agree (m - j) (strided x p 1) (strided y q 1)
   rest p q j x y u g h s c l = u .read (j + c) (omega arith) (omega arith) (omega arith) s
 
   -- ---- the real one
@@ -47,7 +46,7 @@ module _ (f : Format) (ld md n : ℕ) (a b : List Float) (r : SameRows ld md n a
 
     pub solve-real : (p norm : Float) → Keeps P (solveReal f ld a p norm m) (solveReal f md b p norm m)
     unfolding solveReal
-    solve-real p norm = blocks f ld md n a b r P _ _ _ _ m w (real-one p norm) (real-two p)
+    solve-real p norm = blocks f ld md n r P _ _ _ _ m w (real-one p norm) (real-two p)
 
     -- ---- the complex one, whose second column is u'
 
@@ -92,4 +91,4 @@ module _ (f : Format) (ld md n : ℕ) (a b : List Float) (r : SameRows ld md n a
 
       pub solve-cplx : (p q norm : Float) → Keeps P (solveCplx f ld a p q norm m) (solveCplx f md b p q norm m)
       unfolding solveCplx
-      solve-cplx p q norm = blocks f ld md n a b r P _ _ _ _ m w (cplx-one p q norm) (cplx-two p q norm)
+      solve-cplx p q norm = blocks f ld md n r P _ _ _ _ m w (cplx-one p q norm) (cplx-two p q norm)

@@ -9,16 +9,15 @@ use lib.Ieee.{Float, Format, add, mul}
 use borrow.Author.Tests.{ltb-true}
 use Rattle.model.specs.Arith.{zeroOf, innerFrom, innerProd}
 use Rattle.model.specs.Vectors.{splitFrom, splitProd, sumFrom, rowsTo, normColumns, formNorm}
-use Rattle.laws_stride.specs.Strides.{SameRows}
-use Rattle.laws_stride.proofs.Cells.{same-at, cell}
+use Rattle.laws_stride.proofs.Rowwise.{ReadsAs, cell, same-at}
 
 -- ---- inner products
 
 -- the same numbers below k
-abbrev pub Alike : ℕ → (ℕ → Float) → (ℕ → Float) → Type 0
-Alike k x y = (i : ℕ) → i < k → x i ≡ y i
+abbrev pub Agree : ℕ → (ℕ → Float) → (ℕ → Float) → Type 0
+Agree k x y = (i : ℕ) → i < k → x i ≡ y i
 
-module _ (f : Format) (x y u v : ℕ → Float) (m : ℕ) (g : Alike m x u) (h : Alike m y v) where
+module _ (f : Format) (x y u v : ℕ → Float) (m : ℕ) (g : Agree m x u) (h : Agree m y v) where
   inner-from : (k i : ℕ) (s : Float) → i + k ≤ m → innerFrom f x y k i s ≡ innerFrom f u v k i s
   unfolding innerFrom
   inner-from zero i s l = refl
@@ -42,7 +41,7 @@ module _ (f : Format) (x y u v : ℕ → Float) (m : ℕ) (g : Alike m x u) (h :
 
 -- ---- the sum of magnitudes
 
-module _ (f : Format) (ld md n : ℕ) (a b : List Float) (r : SameRows ld md n a b) where
+module _ (f : Format) (ld md n : ℕ) {a b : List Float} (r : ReadsAs ld md n a b) where
   sum-from : (j k i : ℕ) (s : Float) → j < n → i + k ≤ n → sumFrom f a (ld * j) k i s ≡ sumFrom f b (md * j) k i s
   unfolding sumFrom
   sum-from j zero i s h l = refl

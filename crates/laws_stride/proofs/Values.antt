@@ -15,11 +15,12 @@ use Rattle.model.specs.Values.{Parts, oneValue, twoValues, valuesFrom, valuesLi
 use Rattle.model.specs.Vectors.{columnLine, columnOf}
 use Rattle.laws_moves.proofs.Upper.{at-least}
 use Rattle.laws_stride.specs.Strides.{Allowed, SameRows}
-use Rattle.laws_stride.proofs.Cells.{same-at, cell, same-below, full, same-line5, same-line6}
+use Rattle.laws_stride.proofs.Rowwise.{ReadsAs, nonzero-same, cell, same-at, rows-read}
+use Rattle.laws_stride.proofs.Lines.{full, line5-same, line6-same}
 
 -- ---- the values
 
-module _ (f : Format) (ld md n : ℕ) (a b : List Float) (r : SameRows ld md n a b) where
+module _ (f : Format) (ld md n : ℕ) {a b : List Float} (r : ReadsAs ld md n a b) where
   same-one : (j : ℕ) (s : Parts) → j < n → oneValue f ld a j s ≡ oneValue f md b j s
   unfolding oneValue
   same-one j s h = rw (r .same j j h h)
@@ -34,7 +35,7 @@ module _ (f : Format) (ld md n : ℕ) (a b : List Float) (r : SameRows ld md n a
   same-from (suc zero) j s h = same-one j s (omega arith)
   same-from (suc (suc k)) j s h =
       rw (
-        same-below f ld md n j a b r (omega arith),
+        nonzero-same f j (omega arith) r,
         same-one j s (omega arith),
         same-two j s (omega arith),
         same-from k (j + 2) (twoValues f md b j s) (omega arith),
@@ -44,7 +45,7 @@ module _ (f : Format) (ld md n : ℕ) (a b : List Float) (r : SameRows ld md n a
 pub same-values : (f : Format) (ld md n : ℕ) (a b : List Float) (s : Parts) → Allowed ld md n → SameRows ld md n a b → blockValues f ld n a s ≡ blockValues f md n b s
 unfolding blockValues valuesLine line3
 same-values f ld md n a b s w r =
-    rw (w .first, w .second, full ld n a (r .size), full md n b (r .size'), same-line5 f ld md n a b r, same-line6 f ld md n a b r, same-from f ld md n a b r n 0 s (omega arith))
+    rw (w .first, w .second, full ld n a (r .size), full md n b (r .size'), line5-same f ld md n (rows-read r), line6-same f ld md n (rows-read r), same-from f ld md n (rows-read r) n 0 s (omega arith))
 
 -- ---- a column
 
@@ -63,7 +64,7 @@ same-column ld md n v w col p r =
     same h =
         let l = part ld v (at-least ld n (p .first)) (r .size) h in
         let k = part md w (at-least md n (p .second)) (r .size') h in
-        ext-getD nan (take n (drop (ld * col) v)) (take n (drop (md * col) w)) (l ∙ sym k) λ i g. let c : i < n = omega arith in rw (in-column ld v i c, in-column md w i c) (same-at r (cell i col c h (omega arith) (omega arith)))
+        ext-getD nan (take n (drop (ld * col) v)) (take n (drop (md * col) w)) (l ∙ sym k) λ i g. let c : i < n = omega arith in rw (in-column ld v i c, in-column md w i c) (same-at (rows-read r) (cell i col c h (omega arith) (omega arith)))
 
     go : (c : Bool) → (c ≡ true → col < n) → (d : Bool)
         → cond (eqb (cond d 2 (cond (not c) 7 0)) 0) (take n (drop (ld * col) v)) [] ≡ cond (eqb (cond d 2 (cond (not c) 7 0)) 0) (take n (drop (md * col) w)) []

@@ -1,22 +1,24 @@
--- Two moves beside each other, each by its own stride, over any relation of changes that makes the zeros just below the diagonal alike and that an exchange of rows below n keeps. Both make the same exchanges and end in the same row, with the relation kept. Assumes nothing.
+-- Two moves beside each other, each by its own stride, over any relation of changes that makes the n rows read alike and that an exchange of rows below n keeps. Both make the same exchanges and end in the same row, with the relation kept. Assumes nothing.
 use mathlib.Core.Path.{_≡_, refl, ap, ap₂}
 use Prim.Native.Nat.{ℕ, zero, suc, _+_, _-_, _≤_, _<_}
 use native.Mathlib.Decide.{ℕ-discrete}
 use native.Mathlib.Omega.{arith}
-use mathlib.Core.Bool.{Bool, true, false, not, _&&_, cond}
+use mathlib.Core.Bool.{Bool, true, false, _&&_, cond}
 use mathlib.Core.List.{List, [], _∷_, _++_}
 use lib.Dec.{eqb, ltb, leb}
-use lib.Ieee.{Float, Format, ne}
+use lib.Ieee.{Float, Format}
 use borrow.Author.Tests.{eqb-true, eqb-false, ltb-true, leb-true}
 use Rattle.model.specs.Form.{zeroBelow, nonzeroBelow, twoBlock}
 use Rattle.model.specs.Swaps.{Change, unchanged, andThen}
 use Rattle.model.specs.Exchange.{exchange}
 use Rattle.model.specs.Move.{firstRow, sizeAt, sizeAbove, Exchange, Moving, exchanging, arrived, landedWhole, downWhole, downPastTwo, downApart, downStep, downBy, upWhole, upPastTwo, upApart, upStep, upBy, goalDown, moveFrom, move}
-use Rattle.laws_stride.proofs.Changes.{guarded, is-two, branch, Room, room}
+use Rattle.laws_stride.proofs.Tests.{guarded, is-two, branch}
+use Rattle.laws_stride.proofs.Rowwise.{ReadsAs, zero-same, nonzero-same}
+use Rattle.laws_stride.proofs.Changes.{Room, room}
 
 -- such a relation
 pub record Exchanges (f : Format) (ld md n : ℕ) (Q : Change → Change → Type 0) : Type 0 where
-  pub zeros : {c d : Change} (j : ℕ) → j + 1 < n → Q c d → zeroBelow f ld (c .form) j ≡ zeroBelow f md (d .form) j
+  pub reads : {c d : Change} → Q c d → ReadsAs ld md n (c .form) (d .form)
   pub more : (j n1 n2 : ℕ) {c d : Change} → Room n j n1 n2 → Q c d → Q (andThen c (exchange f ld n j n1 n2)) (andThen d (exchange f md n j n1 n2))
 
 -- Two moves that stand alike, of a block of s rows below n: nbf is s, or 3 where two rows have split.
@@ -79,24 +81,20 @@ kept s k false l h e = (l, h)
 module _ (f : Format) (ld md n : ℕ) (Q : Change → Change → Type 0) (K : Exchanges f ld md n Q) where
   -- ---- what is read
 
-  zero-same : {c d : Change} (j : ℕ) {j' : ℕ} → j ≡ j' → j + 1 < n → Q c d → zeroBelow f ld (c .form) j ≡ zeroBelow f md (d .form) j'
-  zero-same j e h q = rw (← e) (K .zeros j h q)
-
-  nonzero-same : {c d : Change} (j : ℕ) → j + 1 < n → Q c d → nonzeroBelow f ld (c .form) j ≡ nonzeroBelow f md (d .form) j
-  unfolding ne
-  nonzero-same j h q = ap not (K .zeros j h q)
+  zero-at : {c d : Change} (j : ℕ) {j' : ℕ} → j ≡ j' → j + 1 < n → Q c d → zeroBelow f ld (c .form) j ≡ zeroBelow f md (d .form) j'
+  zero-at j e h q = rw (← e) (zero-same f j h (K .reads q))
 
   size-same : {c d : Change} (p : ℕ) {p' : ℕ} → p ≡ p' → Q c d → sizeAt f ld n (c .form) p ≡ sizeAt f md n (d .form) p'
   unfolding sizeAt twoBlock
-  size-same p e q = rw (← e) (ap (λ (b : Bool). cond b 2 1) (guarded (ltb (p + 1) n) _ _ (λ g. nonzero-same p (ltb-true (p + 1) n g) q)))
+  size-same p e q = rw (← e) (ap (λ (b : Bool). cond b 2 1) (guarded (ltb (p + 1) n) _ _ (λ g. nonzero-same f p (ltb-true (p + 1) n g) (K .reads q))))
 
   above-same : {c d : Change} (p : ℕ) {p' : ℕ} → p ≡ p' → p < n → Q c d → sizeAbove f ld (c .form) p ≡ sizeAbove f md (d .form) p'
   unfolding sizeAbove
-  above-same p e h q = rw (← e) (ap (λ (b : Bool). cond b 2 1) (guarded (leb 2 p) _ _ (λ g. let l = leb-true 2 p g in nonzero-same (p - 2) (omega arith) q)))
+  above-same p e h q = rw (← e) (ap (λ (b : Bool). cond b 2 1) (guarded (leb 2 p) _ _ (λ g. let l = leb-true 2 p g in nonzero-same f (p - 2) (omega arith) (K .reads q))))
 
   first-same : {c d : Change} (p : ℕ) → p < n → Q c d → firstRow f ld (c .form) p ≡ firstRow f md (d .form) p
   unfolding firstRow
-  first-same p h q = ap (λ (b : Bool). cond b (p - 1) p) (guarded (ltb 0 p) _ _ (λ g. let l = ltb-true 0 p g in nonzero-same (p - 1) (omega arith) q))
+  first-same p h q = ap (λ (b : Bool). cond b (p - 1) p) (guarded (ltb 0 p) _ _ (λ g. let l = ltb-true 0 p g in nonzero-same f (p - 1) (omega arith) (K .reads q)))
 
   -- ---- parts of a step
 
@@ -130,7 +128,7 @@ module _ (f : Format) (ld md n : ℕ) (Q : Change → Change → Type 0) (K : Ex
         rw (← e)
         (record {
           here = refl;
-          nbf = rw (b .nbf) (ap (λ (x : Bool). cond x 3 (w .nbf)) (guarded (eqb (w .nbf) 2) _ _ (λ e. let q = eqb-true (w .nbf) 2 e in K .zeros row (omega arith) (b .change))));
+          nbf = rw (b .nbf) (ap (λ (x : Bool). cond x 3 (w .nbf)) (guarded (eqb (w .nbf) 2) _ _ (λ e. let q = eqb-true (w .nbf) 2 e in zero-same f row (omega arith) (K .reads (b .change)))));
           exchanges = b .exchanges;
           change = b .change;
           some = b .some;
@@ -158,7 +156,7 @@ module _ (f : Format) (ld md n : ℕ) (Q : Change → Change → Type 0) (K : Ex
     down-past {m} h b =
         let p = ap (_+ 1) (b .here) in
         arrive _ (ap (_+ 2) (b .here)) (omega arith)
-        (branch Pair (zeroBelow f ld (m .change .form) (m .here + 1)) (zero-same _ p (omega arith) (b .change))
+        (branch Pair (zeroBelow f ld (m .change .form) (m .here + 1)) (zero-at _ p (omega arith) (b .change))
         (λ _. exchange-more _ 1 1 p refl refl (room (omega arith) (omega arith) (omega arith) (omega arith) (omega arith)) (exchange-more _ 1 1 (b .here) refl refl (room (omega arith) (omega arith) (omega arith) (omega arith) (omega arith)) b))
         (λ _. exchange-more _ 1 2 (b .here) refl refl (room (omega arith) (omega arith) (omega arith) (omega arith) (omega arith)) b))
 
@@ -200,7 +198,7 @@ module _ (f : Format) (ld md n : ℕ) (Q : Change → Change → Type 0) (K : Ex
     up-past {m} h g b =
         let p = ap (_- 1) (b .here) in
         arrive _ (ap (_- 2) (b .here)) (omega arith)
-        (branch Pair (zeroBelow f ld (m .change .form) (m .here - 1)) (zero-same _ p (omega arith) (b .change))
+        (branch Pair (zeroBelow f ld (m .change .form) (m .here - 1)) (zero-at _ p (omega arith) (b .change))
         (λ _. exchange-more _ 1 1 p refl refl (room (omega arith) (omega arith) (omega arith) (omega arith) (omega arith)) (exchange-more _ 1 1 (b .here) refl refl (room (omega arith) (omega arith) (omega arith) (omega arith) (omega arith)) b))
         (λ _. exchange-more _ 2 1 p refl refl (room (omega arith) (omega arith) (omega arith) (omega arith) (omega arith)) b))
 
