@@ -12,15 +12,20 @@ use Rattle.model.specs.Values.{valuesLine, blockValues}
 use Rattle.model.specs.Vectors.{vectorsLine, evdFromRealSchur, columnLine, columnOf}
 use Rattle.laws_stride.specs.Base.{StrideIsN, baseMove, baseExchange, baseValues, baseVectors, baseColumn}
 
+-- the stride n is allowed as far as the greatest stride
+pub stride-n : (n : ℕ) → n ≤ 128 → line17 n n ≡ false
+unfolding line17
+stride-n n h = rw (le-ltb n n (omega arith), le-ltb 128 n h)
+
 -- line 2 is tested first
 skip : (n rest : ℕ) → cond (line2 n) 2 (cond (line17 n n) 17 rest) ≡ cond (line2 n) 2 rest
-unfolding line2 line17
+unfolding line2
 skip n rest = go (eqb n 0) (ltb 64 n) (ltb-false 64 n)
   where
-    go : (a b : Bool) → (b ≡ false → n ≤ 64) → cond (a || b) 2 (cond (ltb n n || ltb 128 n) 17 rest) ≡ cond (a || b) 2 rest
+    go : (a b : Bool) → (b ≡ false → n ≤ 64) → cond (a || b) 2 (cond (line17 n n) 17 rest) ≡ cond (a || b) 2 rest
     go true b h = refl
     go false true h = refl
-    go false false h = let k = h refl in rw (le-ltb n n (omega arith), le-ltb 128 n (omega arith))
+    go false false h = let k = h refl in rw (stride-n n (omega arith))
 
 pub stride-is-n : StrideIsN
 unfolding moveCall moveLine baseMove exchangeCall exchangeLine baseExchange blockValues valuesLine baseValues evdFromRealSchur vectorsLine baseVectors columnOf columnLine baseColumn

@@ -1,5 +1,5 @@
 -- The claim: what a call gives, and the n rows that it leaves, hang on the n rows that it is given, and neither on the stride nor on the rows from n on. Definitions only: the proofs are in proofs/. Assumes nothing.
--- With both strides one, no row from n on is read. With n for the second, a call at any stride does what it does on the n by n corner copied out.
+-- With both strides one, no row from n on is read. With n for the second, a call at any stride does what it did without one: LikeBase, the corollary.
 use Prim.Native.Nat.{ℕ, _*_, _<_}
 use mathlib.Core.Path.{_≡_}
 use mathlib.Core.Logic.{_⊎_}
@@ -12,6 +12,7 @@ use Rattle.model.specs.Exchange.{Exchanged, exchangeCall}
 use Rattle.model.specs.Move.{Moved, moveCall}
 use Rattle.model.specs.Values.{Parts, blockValues}
 use Rattle.model.specs.Vectors.{Vectors, evdFromRealSchur, columnOf}
+use Rattle.laws_stride.specs.Base.{baseMove, baseExchange, baseValues, baseVectors, baseColumn}
 
 -- both strides are allowed
 pub record Allowed (ld md n : ℕ) : Type 0 where
@@ -56,3 +57,14 @@ pub record TwoStrides : Type 0 where
   pub vectors : (f : Format) (ld md n : ℕ) (a b v w : List Float) → Allowed ld md n → SameRows ld md n a b → SameRows ld md n v w
       → SameVectors ld md n (evdFromRealSchur f ld n a v) (evdFromRealSchur f md n b w)
   pub column : (ld md n : ℕ) (v w : List Float) (col : ℕ) → Allowed ld md n → SameRows ld md n v w → columnOf ld n v col ≡ columnOf md n w col
+
+-- The n rows of a, at the stride ld, copied out are b, of n by n: a call on a does what the call without a stride does on b.
+pub record LikeBase : Type 0 where
+  pub moves : (f : Format) (ld n : ℕ) (a b u v : List Float) (from to : ℕ) → line17 ld n ≡ false → SameRows ld n n a b → SameFactor ld n n u v
+      → SameMoved ld n n (moveCall f ld n a u from to) (baseMove f n b v from to)
+  pub exchanges : (f : Format) (ld n : ℕ) (a b u v : List Float) (j n1 n2 : ℕ) → line17 ld n ≡ false → SameRows ld n n a b → SameFactor ld n n u v
+      → SameExchanged ld n n (exchangeCall f ld n a u j n1 n2) (baseExchange f n b v j n1 n2)
+  pub values : (f : Format) (ld n : ℕ) (a b : List Float) (s : Parts) → line17 ld n ≡ false → SameRows ld n n a b → blockValues f ld n a s ≡ baseValues f n b s
+  pub vectors : (f : Format) (ld n : ℕ) (a b v w : List Float) → line17 ld n ≡ false → SameRows ld n n a b → SameRows ld n n v w
+      → SameVectors ld n n (evdFromRealSchur f ld n a v) (baseVectors f n b w)
+  pub column : (ld n : ℕ) (v w : List Float) (col : ℕ) → line17 ld n ≡ false → SameRows ld n n v w → columnOf ld n v col ≡ baseColumn n w col
