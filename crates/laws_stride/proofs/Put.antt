@@ -30,7 +30,7 @@ put-else ld i j k l v t g h d = let p = apart ld k l i j h g d in rw getD-set-ot
 
 pub put-same : (ld md n i j : ℕ) (v : Float) (a b : List Float) → n ≤ ld → n ≤ md → i < n → j < n → SameRows ld md n a b → SameRows ld md n (put ld i j v a) (put md i j v b)
 put-same ld md n i j v a b w x g h s =
-    record { size = length-set a (place ld i j) v ∙ s .size; size' = length-set b (place md i j) v ∙ s .size'; same = λ k l p q. go k l p q }
+    record { size = length-set a (place ld i j) v ∙ s .size; size' = length-set b (place md i j) v ∙ s .size'; same = λ k l p q. go k l (omega arith) (omega arith) }
   where
     go : (k l : ℕ) → k < n → l < n → entry ld (put ld i j v a) k l ≡ entry md (put md i j v b) k l
     go k l p q =
@@ -43,10 +43,10 @@ put-same ld md n i j v a b w x g h s =
         ]
       where
         other : (k ≡ i → l ≡ j → ⊥) → entry ld (put ld i j v a) k l ≡ entry md (put md i j v b) k l
-        other d = put-else ld i j k l v a (omega arith) (omega arith) d ∙ s .same k l p q ∙ sym (put-else md i j k l v b (omega arith) (omega arith) d)
+        other d = put-else ld i j k l v a (omega arith) (omega arith) d ∙ s .same k l (omega arith) (omega arith) ∙ sym (put-else md i j k l v b (omega arith) (omega arith) d)
 
 -- ---- rows from n on
 
 pub put-beyond : (ld n i j : ℕ) (v : Float) (o t : List Float) → n ≤ ld → i < n → BeyondStays ld n o t → BeyondStays ld n o (put ld i j v t)
 put-beyond ld n i j v o t w g s =
-    record { size = length-set t (place ld i j) v ∙ s .size; beyond = λ k l p q. put-else ld i j k l v t (omega arith) q (λ e _. omega arith) ∙ s .beyond k l p q }
+    record { size = length-set t (place ld i j) v ∙ s .size; beyond = λ k l p q. put-else ld i j k l v t (omega arith) (omega arith) (λ e _. omega arith) ∙ s .beyond k l p q }
