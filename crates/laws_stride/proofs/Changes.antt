@@ -24,9 +24,6 @@ pub record Room (n j n1 n2 : ℕ) : Type 0 where
   pub most2 : n2 ≤ 2
   pub below : j + n1 + n2 ≤ n
 
-pub room : {n j n1 n2 : ℕ} → 1 ≤ n1 → n1 ≤ 2 → 1 ≤ n2 → n2 ≤ 2 → j + n1 + n2 ≤ n → Room n j n1 n2
-room a b c d e = record { some1 = a; most1 = b; some2 = c; most2 = d; below = e }
-
 -- the same operations, on columns below n, and the same runs
 pub record Alike (n : ℕ) (R : List Float → List Float → Type 0) (c d : Change) : Type 0 where
   pub forms : R (c .form) (d .form)
@@ -69,8 +66,8 @@ module _ (f : Format) (ld md n : ℕ) (R : List Float → List Float → Type 0)
     unfolding swap11 Inside
     alike11 h =
         rw (rotation11-same h)
-        (alike-swapped j 1 1 _ (omega arith, h)
-        (on-form f ld md n R K (j + 2) j _ (omega arith) (omega arith, h)
+        (alike-swapped j 1 1 _ (omega arith)
+        (on-form f ld md n R K (j + 2) j _ (omega arith) (omega arith)
         (set-at K (cell j j (omega arith) (omega arith) refl refl) (K .reads r .same (j + 1) (j + 1) h h) (set-at K (cell (j + 1) (j + 1) h h refl refl) (K .reads r .same j j (omega arith) (omega arith)) r))))
 
     reflectors12-same : j + 2 < n → reflectors12 f ld a j ≡ reflectors12 f md b j
@@ -84,9 +81,9 @@ module _ (f : Format) (ld md n : ℕ) (R : List Float → List Float → Type 0)
     unfolding swap12 Inside
     alike12 h =
         rw (reflectors12-same h)
-        (alike-swapped j 1 2 _ (omega arith, omega arith, h)
+        (alike-swapped j 1 2 _ (omega arith)
         (K .puts (j + 2) (j + 1) (zeroOf f) h (omega arith) (K .puts (j + 2) j (zeroOf f) h (omega arith)
-        (on-form f ld md n R K j (j + 3) _ (omega arith) (omega arith, omega arith, h) r))))
+        (on-form f ld md n R K j (j + 3) _ (omega arith) (omega arith) r))))
 
     reflectors21-same : j + 2 < n → reflectors21 f ld a j ≡ reflectors21 f md b j
     unfolding reflectors21
@@ -99,9 +96,9 @@ module _ (f : Format) (ld md n : ℕ) (R : List Float → List Float → Type 0)
     unfolding swap21 Inside
     alike21 h =
         rw (reflectors21-same h)
-        (alike-swapped j 2 1 _ (h, omega arith, omega arith)
+        (alike-swapped j 2 1 _ (omega arith)
         (K .puts (j + 2) j (zeroOf f) h (omega arith) (K .puts (j + 1) j (zeroOf f) (omega arith) (omega arith)
-        (on-form f ld md n R K j (j + 3) _ (omega arith) (h, omega arith, omega arith) r))))
+        (on-form f ld md n R K j (j + 3) _ (omega arith) (omega arith) r))))
 
     column-same : (col : ℕ) → j + 3 < n → col < n → windowColumn ld a j col ≡ windowColumn md b j col
     unfolding windowColumn
@@ -122,7 +119,7 @@ module _ (f : Format) (ld md n : ℕ) (R : List Float → List Float → Type 0)
         (on-form f ld md n R K j (j + 4) _ (omega arith) rows r)))))))
       where
         rows : (j < n) × (j + 1 < n) × (j + 2 < n) × (j + 3 < n)
-        rows = (omega arith, omega arith, omega arith, h)
+        rows = omega arith
 
     block-same : j + 1 < n → blockAt f ld a j ≡ blockAt f md b j
     unfolding blockAt
@@ -144,7 +141,7 @@ module _ (f : Format) (ld md n : ℕ) (R : List Float → List Float → Type 0)
         })
       where
         rows : (j < n) × (j + 1 < n)
-        rows = (omega arith, h)
+        rows = omega arith
 
   -- ---- the exchange
 
@@ -169,9 +166,9 @@ module _ (f : Format) (ld md n : ℕ) (R : List Float → List Float → Type 0)
   alike-by zero j n1 n2 w r = alike-unchanged r
   alike-by (suc k) j n1 n2 {a} w r =
       branch (Alike n R) (eqb n1 2 && zeroBelow f ld a j) (guarded (eqb n1 2) _ _ (λ _. zero-same f j (omega arith) (K .reads r)))
-      (λ e. let q = is-two n1 _ e in alike-then _ _ (alike-by k (j + 1) 1 n2 (room (omega arith) (omega arith) (omega arith) (omega arith) (omega arith)) r) (alike-by k j 1 n2 (room (omega arith) (omega arith) (omega arith) (omega arith) (omega arith))))
+      (λ e. let q = is-two n1 _ e in alike-then _ _ (alike-by k (j + 1) 1 n2 (omega arith) r) (alike-by k j 1 n2 (omega arith)))
       (λ _. branch (Alike n R) (eqb n2 2 && zeroBelow f ld a (j + n1)) (guarded (eqb n2 2) _ _ (λ e. let q = eqb-true n2 2 e in zero-same f (j + n1) (omega arith) (K .reads r)))
-      (λ e. let q = is-two n2 _ e in alike-then _ _ (alike-by k j n1 1 (room (omega arith) (omega arith) (omega arith) (omega arith) (omega arith)) r) (alike-by k (j + 1) n1 1 (room (omega arith) (omega arith) (omega arith) (omega arith) (omega arith))))
+      (λ e. let q = is-two n2 _ e in alike-then _ _ (alike-by k j n1 1 (omega arith) r) (alike-by k (j + 1) n1 1 (omega arith)))
       (λ _. alike-whole j n1 n2 w r))
 
   pub alike-exchange : (j n1 n2 : ℕ) {a b : List Float} → Room n j n1 n2 → R a b → Alike n R (exchange f ld n j n1 n2 a) (exchange f md n j n1 n2 b)

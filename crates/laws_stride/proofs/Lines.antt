@@ -18,7 +18,7 @@ use Rattle.laws_moves.proofs.Upper.{at-least}
 use Rattle.laws_stride.specs.Strides.{Allowed, SameRows, SameFactor}
 use Rattle.laws_stride.proofs.Tests.{guarded, both-true}
 use Rattle.laws_stride.proofs.Rowwise.{ReadsAs, nonzero-same, cell, same-at, rows-read}
-use Rattle.laws_stride.proofs.Changes.{Room, room}
+use Rattle.laws_stride.proofs.Changes.{Room}
 
 -- ---- entries
 
@@ -101,8 +101,8 @@ one-or-two : (k : ℕ) → (eqb k 1 || eqb k 2) ≡ true → (1 ≤ k) × (k ≤
 one-or-two k h = go (eqb k 1) (eqb k 2) (eqb-true k 1) (eqb-true k 2) h
   where
     go : (a b : Bool) → (a ≡ true → k ≡ 1) → (b ≡ true → k ≡ 2) → (a || b) ≡ true → (1 ≤ k) × (k ≤ 2)
-    go true b p q e = let r = p refl in (omega arith, omega arith)
-    go false true p q e = let r = q refl in (omega arith, omega arith)
+    go true b p q e = let r = p refl in omega arith
+    go false true p q e = let r = q refl in omega arith
     go false false p q e = absurd (true≢false (sym e))
 
 sizes : (n1 n2 : ℕ) → line8 n1 n2 ≡ false → ((1 ≤ n1) × (n1 ≤ 2)) × ((1 ≤ n2) × (n2 ≤ 2))
@@ -135,4 +135,5 @@ module _ (f : Format) (ld n : ℕ) (t u : List Float) where
       let p8 = passed (line8 n1 n2) 7 _ (p7 .1) in
       let p9 = passed (line9 n j n1 n2) 8 _ (p8 .1) in
       let z = sizes n1 n2 (p8 .0) in
-      (p .0, room (z .0 .0) (z .0 .1) (z .1 .0) (z .1 .1) (ltb-false n (j + n1 + n2) (p9 .0)))
+      let l = ltb-false n (j + n1 + n2) (p9 .0) in
+      (p .0, omega arith)

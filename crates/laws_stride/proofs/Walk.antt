@@ -14,24 +14,28 @@ use Rattle.model.specs.Exchange.{exchange}
 use Rattle.model.specs.Move.{firstRow, sizeAt, sizeAbove, Exchange, Moving, exchanging, arrived, landedWhole, downWhole, downPastTwo, downApart, downStep, downBy, upWhole, upPastTwo, upApart, upStep, upBy, goalDown, moveFrom, move}
 use Rattle.laws_stride.proofs.Tests.{guarded, is-two, branch}
 use Rattle.laws_stride.proofs.Rowwise.{ReadsAs, zero-same, nonzero-same}
-use Rattle.laws_stride.proofs.Changes.{Room, room}
+use Rattle.laws_stride.proofs.Changes.{Room}
 
 -- such a relation
 pub record Exchanges (f : Format) (ld md n : ℕ) (Q : Change → Change → Type 0) : Type 0 where
   pub reads : {c d : Change} → Q c d → ReadsAs ld md n (c .form) (d .form)
   pub more : (j n1 n2 : ℕ) {c d : Change} → Room n j n1 n2 → Q c d → Q (andThen c (exchange f ld n j n1 n2)) (andThen d (exchange f md n j n1 n2))
 
--- Two moves that stand alike, of a block of s rows below n: nbf is s, or 3 where two rows have split.
+-- Where a block of s rows stands below n while it moves: nbf is s, or 3 where two rows have split.
+pub record Standing (n s here nbf : ℕ) : Type 0 where
+  pub some : 1 ≤ s
+  pub most : s ≤ 2
+  pub low : s ≤ nbf
+  pub high : nbf + 1 ≤ s + s
+  pub below : here + s ≤ n
+
+-- two moves that stand alike
 pub record Beside (n : ℕ) (Q : Change → Change → Type 0) (s : ℕ) (m w : Moving) : Type 0 where
   pub here : m .here ≡ w .here
   pub nbf : m .nbf ≡ w .nbf
   pub exchanges : m .exchanges ≡ w .exchanges
   pub change : Q (m .change) (w .change)
-  pub some : 1 ≤ s
-  pub most : s ≤ 2
-  pub low : s ≤ m .nbf
-  pub high : m .nbf + 1 ≤ s + s
-  pub below : m .here + s ≤ n
+  pub stands : Standing n s (m .here) (m .nbf)
 
 -- ---- sizes
 
@@ -42,9 +46,9 @@ record Size (k x : ℕ) : Type 0 where
   within : x ≤ k
 
 one-or-two : (k : ℕ) (a b : Bool) → 1 ≤ k → (a ≡ true → 2 ≤ k) → Size k (cond (a && b) 2 1)
-one-or-two k true true h t = record { some = omega arith; most = omega arith; within = t refl }
-one-or-two k true false h t = record { some = omega arith; most = omega arith; within = h }
-one-or-two k false b h t = record { some = omega arith; most = omega arith; within = h }
+one-or-two k true true h t = let l = t refl in omega arith
+one-or-two k true false h t = omega arith
+one-or-two k false b h t = omega arith
 
 size-in : (f : Format) (ld n p : ℕ) (t : List Float) → p < n → Size (n - p) (sizeAt f ld n t p)
 unfolding sizeAt twoBlock
@@ -73,10 +77,10 @@ goal-below n k l to g h t m z =
           elim (ℕ-discrete l 1) [ yes q ↦ rw (d, q) (omega arith) | no q ↦ let r : l ≡ 2 = omega arith in rw (d, r) (omega arith) ]
     ]
 
--- nbf after a landing
-kept : (s k : ℕ) (b : Bool) → s ≤ k → k + 1 ≤ s + s → (b ≡ true → k ≡ 2) → (s ≤ cond b 3 k) × (cond b 3 k + 1 ≤ s + s)
-kept s k true l h e = let q = e refl in (omega arith, omega arith)
-kept s k false l h e = (l, h)
+-- after a landing
+landed : {n s here k : ℕ} (row : ℕ) (b : Bool) → row + s ≤ n → Standing n s here k → (b ≡ true → k ≡ 2) → Standing n s row (cond b 3 k)
+landed row true h w e = let q = e refl in omega arith
+landed row false h w e = omega arith
 
 module _ (f : Format) (ld md n : ℕ) (Q : Change → Change → Type 0) (K : Exchanges f ld md n Q) where
   -- ---- what is read
@@ -111,16 +115,12 @@ module _ (f : Format) (ld md n : ℕ) (Q : Change → Change → Type 0) (K : Ex
           nbf = b .nbf;
           exchanges = ap (λ (l : List Exchange). l ++ (record { row = j; n1 = n1; n2 = n2 } ∷ [])) (b .exchanges);
           change = K .more j n1 n2 h (b .change);
-          some = b .some;
-          most = b .most;
-          low = b .low;
-          high = b .high;
-          below = b .below;
+          stands = b .stands;
         })
 
     arrive : (row : ℕ) {row' : ℕ} {m w : Moving} → row ≡ row' → row + s ≤ n → Pair m w → Pair (arrived row m) (arrived row' w)
     unfolding arrived
-    arrive row e h b = record { here = e; nbf = b .nbf; exchanges = b .exchanges; change = b .change; some = b .some; most = b .most; low = b .low; high = b .high; below = h }
+    arrive row e h b = record { here = e; nbf = b .nbf; exchanges = b .exchanges; change = b .change; stands = omega arith }
 
     land : (row : ℕ) {row' : ℕ} {m w : Moving} → row ≡ row' → row + s ≤ n → Pair m w → Pair (landedWhole f ld row m) (landedWhole f md row' w)
     unfolding landedWhole
@@ -131,15 +131,8 @@ module _ (f : Format) (ld md n : ℕ) (Q : Change → Change → Type 0) (K : Ex
           nbf = rw (b .nbf) (ap (λ (x : Bool). cond x 3 (w .nbf)) (guarded (eqb (w .nbf) 2) _ _ (λ e. let q = eqb-true (w .nbf) 2 e in zero-same f row (omega arith) (K .reads (b .change)))));
           exchanges = b .exchanges;
           change = b .change;
-          some = b .some;
-          most = b .most;
-          low = k .0;
-          high = k .1;
-          below = h;
+          stands = landed row _ h (b .stands) (is-two (m .nbf) _);
         })
-      where
-        k : (s ≤ cond (eqb (m .nbf) 2 && zeroBelow f ld (m .change .form) row) 3 (m .nbf)) × (cond (eqb (m .nbf) 2 && zeroBelow f ld (m .change .form) row) 3 (m .nbf) + 1 ≤ s + s)
-        k = kept s (m .nbf) _ (b .low) (b .high) (is-two (m .nbf) _)
 
     -- ---- down
 
@@ -149,7 +142,7 @@ module _ (f : Format) (ld md n : ℕ) (Q : Change → Change → Type 0) (K : Ex
         let d = eqb-false (m .nbf) 3 e in
         let x = size-in f ld n (m .here + m .nbf) (m .change .form) (omega arith) in
         let q = size-same (m .here + m .nbf) (ap₂ _+_ (b .here) (b .nbf)) (b .change) in
-        land _ (ap₂ _+_ (b .here) q) (omega arith) (exchange-more _ _ _ (b .here) (b .nbf) q (room (omega arith) (omega arith) (omega arith) (omega arith) (omega arith)) b)
+        land _ (ap₂ _+_ (b .here) q) (omega arith) (exchange-more _ _ _ (b .here) (b .nbf) q (omega arith) b)
 
     down-past : {m w : Moving} → m .here + 4 ≤ n → Pair m w → Pair (downPastTwo f ld n m) (downPastTwo f md n w)
     unfolding downPastTwo
@@ -157,8 +150,8 @@ module _ (f : Format) (ld md n : ℕ) (Q : Change → Change → Type 0) (K : Ex
         let p = ap (_+ 1) (b .here) in
         arrive _ (ap (_+ 2) (b .here)) (omega arith)
         (branch Pair (zeroBelow f ld (m .change .form) (m .here + 1)) (zero-at _ p (omega arith) (b .change))
-        (λ _. exchange-more _ 1 1 p refl refl (room (omega arith) (omega arith) (omega arith) (omega arith) (omega arith)) (exchange-more _ 1 1 (b .here) refl refl (room (omega arith) (omega arith) (omega arith) (omega arith) (omega arith)) b))
-        (λ _. exchange-more _ 1 2 (b .here) refl refl (room (omega arith) (omega arith) (omega arith) (omega arith) (omega arith)) b))
+        (λ _. exchange-more _ 1 1 p refl refl (omega arith) (exchange-more _ 1 1 (b .here) refl refl (omega arith) b))
+        (λ _. exchange-more _ 1 2 (b .here) refl refl (omega arith) b))
 
     down-apart : {m w : Moving} → m .here + s < n → eqb (m .nbf) 3 ≡ true → Pair m w → Pair (downApart f ld n m) (downApart f md n w)
     unfolding downApart exchanging
@@ -168,8 +161,8 @@ module _ (f : Format) (ld md n : ℕ) (Q : Change → Change → Type 0) (K : Ex
         let x = size-in f ld n (m .here + 2) (m .change .form) (omega arith) in
         let q = size-same (m .here + 2) (ap (_+ 2) (b .here)) (b .change) in
         let p = ap (_+ 1) (b .here) in
-        let c = exchange-more (m .here + 1) 1 next p refl q (room (omega arith) (omega arith) (omega arith) (omega arith) (omega arith)) b in
-        branch Pair (eqb next 1) (ap (λ (k : ℕ). eqb k 1) q) (λ _. arrive _ p (omega arith) (exchange-more _ 1 1 (b .here) refl refl (room (omega arith) (omega arith) (omega arith) (omega arith) (omega arith)) c))
+        let c = exchange-more (m .here + 1) 1 next p refl q (omega arith) b in
+        branch Pair (eqb next 1) (ap (λ (k : ℕ). eqb k 1) q) (λ _. arrive _ p (omega arith) (exchange-more _ 1 1 (b .here) refl refl (omega arith) c))
         (λ g. let l = eqb-false next 1 g in down-past (omega arith) c)
 
     down-step : {m w : Moving} → m .here + s < n → Pair m w → Pair (downStep f ld n m) (downStep f md n w)
@@ -191,7 +184,7 @@ module _ (f : Format) (ld md n : ℕ) (Q : Change → Change → Type 0) (K : Ex
         let x = above-in f ld (m .here) (m .change .form) h in
         let q = above-same (m .here) (b .here) (omega arith) (b .change) in
         let p = ap₂ _-_ (b .here) q in
-        land _ p (omega arith) (exchange-more _ _ _ p q (b .nbf) (room (omega arith) (omega arith) (omega arith) (omega arith) (omega arith)) b)
+        land _ p (omega arith) (exchange-more _ _ _ p q (b .nbf) (omega arith) b)
 
     up-past : {m w : Moving} → 2 ≤ m .here → m .here + 2 ≤ n → Pair m w → Pair (upPastTwo f ld n m) (upPastTwo f md n w)
     unfolding upPastTwo
@@ -199,8 +192,8 @@ module _ (f : Format) (ld md n : ℕ) (Q : Change → Change → Type 0) (K : Ex
         let p = ap (_- 1) (b .here) in
         arrive _ (ap (_- 2) (b .here)) (omega arith)
         (branch Pair (zeroBelow f ld (m .change .form) (m .here - 1)) (zero-at _ p (omega arith) (b .change))
-        (λ _. exchange-more _ 1 1 p refl refl (room (omega arith) (omega arith) (omega arith) (omega arith) (omega arith)) (exchange-more _ 1 1 (b .here) refl refl (room (omega arith) (omega arith) (omega arith) (omega arith) (omega arith)) b))
-        (λ _. exchange-more _ 2 1 p refl refl (room (omega arith) (omega arith) (omega arith) (omega arith) (omega arith)) b))
+        (λ _. exchange-more _ 1 1 p refl refl (omega arith) (exchange-more _ 1 1 (b .here) refl refl (omega arith) b))
+        (λ _. exchange-more _ 2 1 p refl refl (omega arith) b))
 
     up-apart : {m w : Moving} → 0 < m .here → eqb (m .nbf) 3 ≡ true → Pair m w → Pair (upApart f ld n m) (upApart f md n w)
     unfolding upApart exchanging
@@ -209,8 +202,8 @@ module _ (f : Format) (ld md n : ℕ) (Q : Change → Change → Type 0) (K : Ex
         let next = sizeAbove f ld (m .change .form) (m .here) in
         let x = above-in f ld (m .here) (m .change .form) h in
         let q = above-same (m .here) (b .here) (omega arith) (b .change) in
-        let c = exchange-more (m .here - next) next 1 (ap₂ _-_ (b .here) q) q refl (room (omega arith) (omega arith) (omega arith) (omega arith) (omega arith)) b in
-        branch Pair (eqb next 1) (ap (λ (k : ℕ). eqb k 1) q) (λ _. arrive _ (ap (_- 1) (b .here)) (omega arith) (exchange-more _ 1 1 (b .here) refl refl (room (omega arith) (omega arith) (omega arith) (omega arith) (omega arith)) c))
+        let c = exchange-more (m .here - next) next 1 (ap₂ _-_ (b .here) q) q refl (omega arith) b in
+        branch Pair (eqb next 1) (ap (λ (k : ℕ). eqb k 1) q) (λ _. arrive _ (ap (_- 1) (b .here)) (omega arith) (exchange-more _ 1 1 (b .here) refl refl (omega arith) c))
         (λ g. let l = eqb-false next 1 g in up-past (omega arith) (omega arith) c)
 
     up-step : {m w : Moving} → 0 < m .here → Pair m w → Pair (upStep f ld n m) (upStep f md n w)
@@ -247,7 +240,7 @@ module _ (f : Format) (ld md n : ℕ) (Q : Change → Change → Type 0) (K : Ex
         start : (k : ℕ) → s ≡ k → Pair s (record { here = from; nbf = s; change = unchanged a; exchanges = [] }) (record { here = from; nbf = k; change = unchanged b; exchanges = [] })
         start k e =
             let y = x in
-            record { here = refl; nbf = e; exchanges = refl; change = q; some = x .some; most = x .most; low = omega arith; high = omega arith; below = omega arith }
+            record { here = refl; nbf = e; exchanges = refl; change = q; stands = omega arith }
 
     pub move-beside : (from to : ℕ) → from < n → to < n → Beside n Q (sizeAt f ld n a (firstRow f ld a from)) (move f ld n from to a) (move f md n from to b)
     unfolding move
