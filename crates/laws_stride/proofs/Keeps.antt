@@ -61,10 +61,19 @@ pub record Column (m d e : ℕ) (P : List Float → List Float → Type 0) : Typ
   pub read : {p q : ℕ} {x y : List Float} (i : ℕ) → i < m → p ≡ d + i → q ≡ e + i → P x y → at x p ≡ at y q
   pub write : {p q : ℕ} {x y : List Float} {s t : Float} (i : ℕ) → i < m → p ≡ d + i → q ≡ e + i → s ≡ t → P x y → P (set x p s) (set y q t)
 
--- so are those of column c, in parts from column j on
-pub column : {R : List Float → List Float → Type 0} (ld md n j k l m d e c : ℕ) (v w : List Float) → Rowwise ld md n R → d + m ≤ k → e + m ≤ l → m ≤ n → c < n → ld * j + d ≡ ld * c → md * j + e ≡ md * c
+-- the first m numbers of column c, in parts of k and l numbers from column j on, are those from d and from e on
+pub record Placed (ld md n j k l m d e c : ℕ) : Type 0 where
+  pub first : d + m ≤ k
+  pub second : e + m ≤ l
+  pub rows : m ≤ n
+  pub below : c < n
+  pub left : ld * j + d ≡ ld * c
+  pub right : md * j + e ≡ md * c
+
+-- they are read and set alike
+pub column : {R : List Float → List Float → Type 0} (ld md n j k l m d e c : ℕ) (v w : List Float) → Rowwise ld md n R → Placed ld md n j k l m d e c
     → Column m d e (Twin R (ld * j) k (md * j) l v w)
-column ld md n j k l m d e c v w r hk hl hm hc hd he =
+column ld md n j k l m d e c v w r f =
     record {
       read = λ {p} {q} i h g g' s. let a : p < k = omega arith in let b : q < l = omega arith in rw (in-at (s .left) a, in-at (s .right) b) (same-at (r .reads (s .both)) (here p q i h g g'));
       write = λ {p} {q} {s} {t} i h g g' z b.
@@ -78,7 +87,7 @@ column ld md n j k l m d e c v w r hk hl hm hc hd he =
     }
   where
     here : (p q i : ℕ) → i < m → p ≡ d + i → q ≡ e + i → Cell ld md n (ld * j + p) (md * j + q)
-    here p q i h g g' = cell i c (omega arith) hc (omega arith) (omega arith)
+    here p q i h g g' = cell i c (omega arith) (f .below) (omega arith) (omega arith)
 
 pub on-part : (R : List Float → List Float → Type 0) (p k q l : ℕ) (v w : List Float) (g h : List Float → List Float)
     → Keeps (Twin R p k q l v w) g h

@@ -16,7 +16,7 @@ use Rattle.laws_stride.proofs.Tests.{branch}
 use Rattle.laws_stride.proofs.Rowwise.{ReadsAs, Rowwise, Cell, cell, same-at, set-at, rows-read, same-rowwise, kept-first, kept-rowwise}
 use Rattle.laws_stride.proofs.Lines.{full, line5-same, line6-same}
 use Rattle.laws_stride.proofs.Sums.{same-norm}
-use Rattle.laws_stride.proofs.Keeps.{Keeps, blocks, Twin, Column, column, on-part}
+use Rattle.laws_stride.proofs.Keeps.{Keeps, blocks, column, on-part}
 use Rattle.laws_stride.proofs.Solve.{solve-real, solve-cplx}
 
 module _ (f : Format) (ld md n : ℕ) {a b : List Float} (r : ReadsAs ld md n a b) (R : List Float → List Float → Type 0) (K : Rowwise ld md n R) where
@@ -34,7 +34,7 @@ module _ (f : Format) (ld md n : ℕ) {a b : List Float} (r : ReadsAs ld md n a 
   real-column norm k h v w s =
       rw (r .same k k h h)
       (on-part R (ld * k) k (md * k) k _ _ _ _
-      (solve-real f ld md n r k (omega arith) _ (column ld md n k k k k 0 0 k _ _ K (omega arith) (omega arith) (omega arith) h (omega arith) (omega arith)) (entry md b k k) norm)
+      (solve-real f ld md n r k (omega arith) _ (column ld md n k k k k 0 0 k _ _ K (omega arith)) (entry md b k k) norm)
       (negated k k 0 h (omega arith) _ _ (set-at K (cell k k h h refl refl) refl s)))
 
   -- ---- a 2-block's columns
@@ -60,11 +60,8 @@ module _ (f : Format) (ld md n : ℕ) {a b : List Float} (r : ReadsAs ld md n a 
       let l : j < n = omega arith in
       rw (r .same (j + 1) (j + 1) h h, r .same j (j + 1) l h, r .same (j + 1) j h l)
       (on-part R (ld * j) (ld + j) (md * j) (md + j) _ _ _ _
-      (solve-cplx f ld md n r j (omega arith) _ (from 0 0 j l (omega arith) (omega arith) (omega arith) (omega arith)) (from ld md (j + 1) h (omega arith) (omega arith) (omega arith) (omega arith)) (entry md b (j + 1) (j + 1)) _ norm)
+      (solve-cplx f ld md n r j (omega arith) _ (column ld md n j (ld + j) (md + j) j 0 0 j _ _ K (omega arith)) (column ld md n j (ld + j) (md + j) j ld md (j + 1) _ _ K (omega arith)) (entry md b (j + 1) (j + 1)) _ norm)
       (scaled _ j j 0 h (omega arith) _ _ (start _ j h v w s)))
-    where
-      from : {x y : List Float} (d e c : ℕ) → c < n → d ≤ ld → e ≤ md → ld * j + d ≡ ld * c → md * j + e ≡ md * c → Column j d e (Twin R (ld * j) (ld + j) (md * j) (md + j) x y)
-      from {x} {y} d e c p dl em hd he = column ld md n j (ld + j) (md + j) j d e c x y K (omega arith) (omega arith) (omega arith) p hd he
 
   -- ---- all
 
