@@ -68,7 +68,7 @@ module _ (f : Format) (ld md n : ℕ) (R : List Float → List Float → Type 0)
         rw (rotation11-same h)
         (alike-swapped j 1 1 _ (omega arith)
         (on-form f ld md n R K (j + 2) j _ (omega arith) (omega arith)
-        (set-at K (cell j j (omega arith) (omega arith) refl refl) (K .reads r .same (j + 1) (j + 1) h h) (set-at K (cell (j + 1) (j + 1) h h refl refl) (K .reads r .same j j (omega arith) (omega arith)) r))))
+        (set-at K (cell j j (omega arith)) (K .reads r .same (j + 1) (j + 1) h h) (set-at K (cell (j + 1) (j + 1) (omega arith)) (K .reads r .same j j (omega arith) (omega arith)) r))))
 
     reflectors12-same : j + 2 < n → reflectors12 f ld a j ≡ reflectors12 f md b j
     unfolding reflectors12

@@ -9,7 +9,7 @@ use lib.Ieee.{Float, Format}
 use Rattle.model.specs.Form.{at, zeroBelow}
 use Rattle.model.specs.Vectors.{blocksDown, onPart}
 use Rattle.laws_stride.proofs.Tests.{branch}
-use Rattle.laws_stride.proofs.Rowwise.{ReadsAs, Rowwise, zero-same, Cell, cell, same-at, set-at}
+use Rattle.laws_stride.proofs.Rowwise.{ReadsAs, Rowwise, zero-same, Paired, cell, same-at, set-at}
 
 -- what holds of two lists holds of them after g and h
 abbrev pub Keeps : (List Float → List Float → Type 0) → (List Float → List Float) → (List Float → List Float) → Type 0
@@ -86,8 +86,8 @@ column ld md n j k l m d e c v w r f =
           };
     }
   where
-    here : (p q i : ℕ) → i < m → p ≡ d + i → q ≡ e + i → Cell ld md n (ld * j + p) (md * j + q)
-    here p q i h g g' = cell i c (omega arith) (f .below) (omega arith) (omega arith)
+    here : (p q i : ℕ) → i < m → p ≡ d + i → q ≡ e + i → Paired ld md n (ld * j + p) (md * j + q)
+    here p q i h g g' = cell i c (omega arith)
 
 pub on-part : (R : List Float → List Float → Type 0) (p k q l : ℕ) (v w : List Float) (g h : List Float → List Float)
     → Keeps (Twin R p k q l v w) g h

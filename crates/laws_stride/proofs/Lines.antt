@@ -33,7 +33,7 @@ module _ (f : Format) (ld md n : ℕ) {a b : List Float} (r : ReadsAs ld md n a 
   deep-same j = some-same (n - (j + 2)) _ _ (λ k h. ap (λ (x : Float). ne x (zeroOf f)) (go k h))
     where
       go : (k : ℕ) → k < n - (j + 2) → at a (place ld (j + 2) j + k) ≡ at b (place md (j + 2) j + k)
-      go k h = same-at r (cell (j + 2 + k) j (omega arith) (omega arith) (omega arith) (omega arith))
+      go k h = same-at r (cell (j + 2 + k) j (omega arith))
 
   pub line5-same : line5 f ld n a ≡ line5 f md n b
   unfolding line5

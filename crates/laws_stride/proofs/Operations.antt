@@ -7,7 +7,7 @@ use lib.Ieee.{Float, Format}
 use Rattle.model.specs.Form.{place}
 use Rattle.model.specs.Jacobi.{Rotation}
 use Rattle.model.specs.Columns.{Reflect3, Reflect4, rotateAt, reflect3At, reflect4At, rotateRun, reflect3Run, reflect4Run, Operation, rotates, reflects3, reflects4, onColumns, onRows, onForm, onFactor}
-use Rattle.laws_stride.proofs.Rowwise.{Rowwise, Cell, cell, same-at, set-at}
+use Rattle.laws_stride.proofs.Rowwise.{Rowwise, Paired, cell, same-at, set-at}
 
 -- ---- an operation on columns below n
 
@@ -27,42 +27,42 @@ inside-append n (o ∷ os) ps h k = (h .0, inside-append n os ps (h .1) k)
 
 -- ---- places
 
--- k cells, each a step on from the one before
+-- k pairs of places, each a step on from the one before
 record Line (ld md n k s s' p q : ℕ) : Type 0 where
-  pair : (m : ℕ) → m < k → Cell ld md n (p + s * m) (q + s' * m)
+  pair : (m : ℕ) → m < k → Paired ld md n (p + s * m) (q + s' * m)
 
-head : {ld md n k s s' p q : ℕ} → Line ld md n (suc k) s s' p q → Cell ld md n p q
+head : {ld md n k s s' p q : ℕ} → Line ld md n (suc k) s s' p q → Paired ld md n p q
 head h =
     let w = h .pair 0 (omega arith) in
-    cell (w .row) (w .col) (w .low) (w .left) (omega arith) (omega arith)
+    cell (w .row) (w .col) (omega arith)
 
 tail : {ld md n k s s' p q : ℕ} → Line ld md n (suc k) s s' p q → Line ld md n k s s' (p + s) (q + s')
 tail h =
     record {
       pair =
           λ m l. let w = h .pair (suc m) (omega arith) in
-          cell (w .row) (w .col) (w .low) (w .left) (omega arith) (omega arith);
+          cell (w .row) (w .col) (omega arith);
     }
 
 down-column : (ld md n count x : ℕ) → count ≤ n → x < n → Line ld md n count 1 1 (place ld 0 x) (place md 0 x)
-down-column ld md n count x g h = record { pair = λ m l. cell m x (omega arith) h (omega arith) (omega arith) }
+down-column ld md n count x g h = record { pair = λ m l. cell m x (omega arith) }
 
 along-row : (ld md n j x : ℕ) → x < n → Line ld md n (n - j) ld md (place ld x j) (place md x j)
-along-row ld md n j x h = record { pair = λ m l. cell x (j + m) h (omega arith) (omega arith) (omega arith) }
+along-row ld md n j x h = record { pair = λ m l. cell x (j + m) (omega arith) }
 
 module _ (f : Format) (ld md n : ℕ) (R : List Float → List Float → Type 0) (K : Rowwise ld md n R) where
   -- ---- at places
 
-  rotate-at : (v : Rotation) {a b : List Float} {p q p' q' : ℕ} → Cell ld md n p p' → Cell ld md n q q' → R a b → R (rotateAt f v p q a) (rotateAt f v p' q' b)
+  rotate-at : (v : Rotation) {a b : List Float} {p q p' q' : ℕ} → Paired ld md n p p' → Paired ld md n q q' → R a b → R (rotateAt f v p q a) (rotateAt f v p' q' b)
   unfolding rotateAt
   rotate-at v x y r = rw (same-at (K .reads r) x, same-at (K .reads r) y) (set-at K y refl (set-at K x refl r))
 
-  reflect3-at : (v : Reflect3) {a b : List Float} {p q o p' q' o' : ℕ} → Cell ld md n p p' → Cell ld md n q q' → Cell ld md n o o' → R a b
+  reflect3-at : (v : Reflect3) {a b : List Float} {p q o p' q' o' : ℕ} → Paired ld md n p p' → Paired ld md n q q' → Paired ld md n o o' → R a b
       → R (reflect3At f v p q o a) (reflect3At f v p' q' o' b)
   unfolding reflect3At
   reflect3-at v x y z r = rw (same-at (K .reads r) x, same-at (K .reads r) y, same-at (K .reads r) z) (set-at K z refl (set-at K y refl (set-at K x refl r)))
 
-  reflect4-at : (v : Reflect4) {a b : List Float} {p q o s p' q' o' s' : ℕ} → Cell ld md n p p' → Cell ld md n q q' → Cell ld md n o o' → Cell ld md n s s' → R a b
+  reflect4-at : (v : Reflect4) {a b : List Float} {p q o s p' q' o' s' : ℕ} → Paired ld md n p p' → Paired ld md n q q' → Paired ld md n o o' → Paired ld md n s s' → R a b
       → R (reflect4At f v p q o s a) (reflect4At f v p' q' o' s' b)
   unfolding reflect4At
   reflect4-at v x y z w r = rw (same-at (K .reads r) x, same-at (K .reads r) y, same-at (K .reads r) z, same-at (K .reads r) w) (set-at K w refl (set-at K z refl (set-at K y refl (set-at K x refl r))))

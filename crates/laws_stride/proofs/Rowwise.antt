@@ -32,23 +32,27 @@ nonzero-same f j h r = ap (λ (x : Float). ne x (zeroOf f)) (r .same (j + 1) j h
 
 -- ---- places
 
--- p by the stride ld and q by the stride md are the place of one row and column, both below n
-pub record Cell (ld md n p q : ℕ) : Type 0 where
+-- p by the stride ld and q by the stride md are the place of row i, column j, both below n
+pub record Cell (ld md n p q i j : ℕ) : Type 0 where
+  pub low : i < n
+  pub left : j < n
+  pub first : p ≡ place ld i j
+  pub second : q ≡ place md i j
+
+-- of some row and column
+pub record Paired (ld md n p q : ℕ) : Type 0 where
   pub row : ℕ
   pub col : ℕ
-  pub low : row < n
-  pub left : col < n
-  pub first : p ≡ place ld row col
-  pub second : q ≡ place md row col
+  pub here : Cell ld md n p q row col
 
-pub cell : {ld md n p q : ℕ} (i j : ℕ) → i < n → j < n → p ≡ place ld i j → q ≡ place md i j → Cell ld md n p q
-cell i j g h d e = record { row = i; col = j; low = g; left = h; first = d; second = e }
+pub cell : {ld md n p q : ℕ} (i j : ℕ) → Cell ld md n p q i j → Paired ld md n p q
+cell i j h = record { row = i; col = j; here = h }
 
-pub same-at : {ld md n p q : ℕ} {a b : List Float} → ReadsAs ld md n a b → Cell ld md n p q → at a p ≡ at b q
-same-at r c = rw (c .first, c .second) (r .same (c .row) (c .col) (c .low) (c .left))
+pub same-at : {ld md n p q : ℕ} {a b : List Float} → ReadsAs ld md n a b → Paired ld md n p q → at a p ≡ at b q
+same-at r c = let h = c .here in rw (h .first, h .second) (r .same (c .row) (c .col) (h .low) (h .left))
 
-pub set-at : {ld md n p q : ℕ} {R : List Float → List Float → Type 0} {a b : List Float} {x y : Float} → Rowwise ld md n R → Cell ld md n p q → x ≡ y → R a b → R (set a p x) (set b q y)
-set-at {y = y} k c e r = rw (c .first, c .second, e) (k .puts (c .row) (c .col) y (c .low) (c .left) r)
+pub set-at : {ld md n p q : ℕ} {R : List Float → List Float → Type 0} {a b : List Float} {x y : Float} → Rowwise ld md n R → Paired ld md n p q → x ≡ y → R a b → R (set a p x) (set b q y)
+set-at {y = y} k c e r = let h = c .here in rw (h .first, h .second, e) (k .puts (c .row) (c .col) y (h .low) (h .left) r)
 
 -- ---- the same n rows
 

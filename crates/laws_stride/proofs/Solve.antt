@@ -14,7 +14,7 @@ use Rattle.laws_stride.proofs.Keeps.{Keeps, blocks, Column}
 module _ (f : Format) (ld md n : ℕ) {a b : List Float} (r : ReadsAs ld md n a b) (m : ℕ) (w : m ≤ n) (P : List Float → List Float → Type 0) where
   -- row i of the matrices from column j on
   row : (i j : ℕ) → i < m → Agree (m - j) (strided a (place ld i j) ld) (strided b (place md i j) md)
-  row i j h c g = same-at r (cell i (j + c) (omega arith) (omega arith) (omega arith) (omega arith))
+  row i j h c g = same-at r (cell i (j + c) (omega arith))
 
   -- the unknowns of a column from row j on
   rest : {d e : ℕ} (p q j : ℕ) (x y : List Float) → Column m d e P → p ≡ d + j → q ≡ e + j → P x y → Agree (m - j) (strided x p 1) (strided y q 1)

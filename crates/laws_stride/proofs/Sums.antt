@@ -45,7 +45,7 @@ module _ (f : Format) (ld md n : ℕ) {a b : List Float} (r : ReadsAs ld md n a 
   sum-from : (j k i : ℕ) (s : Float) → j < n → i + k ≤ n → sumFrom f a (ld * j) k i s ≡ sumFrom f b (md * j) k i s
   unfolding sumFrom
   sum-from j zero i s h l = refl
-  sum-from j (suc k) i s h l = rw (same-at r (cell {p = ld * j + i} {q = md * j + i} i j (omega arith) h (omega arith) (omega arith))) (sum-from j k (i + 1) _ h (omega arith))
+  sum-from j (suc k) i s h l = rw (same-at r (cell {p = ld * j + i} {q = md * j + i} i j (omega arith))) (sum-from j k (i + 1) _ h (omega arith))
 
   rows-to : (j : ℕ) → rowsTo n j ≤ n
   unfolding rowsTo

@@ -64,7 +64,7 @@ same-column ld md n v w col p r =
     same h =
         let l = part ld v (at-least ld n (p .first)) (r .size) h in
         let k = part md w (at-least md n (p .second)) (r .size') h in
-        ext-getD nan (take n (drop (ld * col) v)) (take n (drop (md * col) w)) (l ∙ sym k) λ i g. let c : i < n = omega arith in rw (in-column ld v i c, in-column md w i c) (same-at (rows-read r) (cell i col c h (omega arith) (omega arith)))
+        ext-getD nan (take n (drop (ld * col) v)) (take n (drop (md * col) w)) (l ∙ sym k) λ i g. let c : i < n = omega arith in rw (in-column ld v i c, in-column md w i c) (same-at (rows-read r) (cell i col (omega arith)))
 
     go : (c : Bool) → (c ≡ true → col < n) → (d : Bool)
         → cond (eqb (cond d 2 (cond (not c) 7 0)) 0) (take n (drop (ld * col) v)) [] ≡ cond (eqb (cond d 2 (cond (not c) 7 0)) 0) (take n (drop (md * col) w)) []

@@ -13,7 +13,7 @@ use Rattle.laws_moves.proofs.Upper.{at-least}
 use Rattle.laws_stride.specs.Beyond.{BeyondStays}
 use Rattle.laws_stride.specs.Strides.{Allowed, SameRows, SameVectors}
 use Rattle.laws_stride.proofs.Tests.{branch}
-use Rattle.laws_stride.proofs.Rowwise.{ReadsAs, Rowwise, Cell, cell, same-at, set-at, rows-read, same-rowwise, kept-first, kept-rowwise}
+use Rattle.laws_stride.proofs.Rowwise.{ReadsAs, Rowwise, Paired, cell, same-at, set-at, rows-read, same-rowwise, kept-first, kept-rowwise}
 use Rattle.laws_stride.proofs.Lines.{full, line5-same, line6-same}
 use Rattle.laws_stride.proofs.Sums.{same-norm}
 use Rattle.laws_stride.proofs.Keeps.{Keeps, blocks, column, on-part}
@@ -26,7 +26,7 @@ module _ (f : Format) (ld md n : ℕ) {a b : List Float} (r : ReadsAs ld md n a 
   unfolding negatedRun
   negated j zero i h g v w s = s
   negated j (suc k) i h g v w s =
-      let c : Cell ld md n (ld * j + i) (md * j + i) = cell i j (omega arith) h (omega arith) (omega arith) in
+      let c : Paired ld md n (ld * j + i) (md * j + i) = cell i j (omega arith) in
       negated j k (i + 1) h (omega arith) _ _ (set-at K c (ap neg (same-at r c)) s)
 
   real-column : (norm : Float) (k : ℕ) → k < n → Keeps R (realColumn f ld a norm k) (realColumn f md b norm k)
@@ -35,7 +35,7 @@ module _ (f : Format) (ld md n : ℕ) {a b : List Float} (r : ReadsAs ld md n a 
       rw (r .same k k h h)
       (on-part R (ld * k) k (md * k) k _ _ _ _
       (solve-real f ld md n r k (omega arith) _ (column ld md n k k k k 0 0 k _ _ K (omega arith)) (entry md b k k) norm)
-      (negated k k 0 h (omega arith) _ _ (set-at K (cell k k h h refl refl) refl s)))
+      (negated k k 0 h (omega arith) _ _ (set-at K (cell k k (omega arith)) refl s)))
 
   -- ---- a 2-block's columns
 
@@ -43,16 +43,15 @@ module _ (f : Format) (ld md n : ℕ) {a b : List Float} (r : ReadsAs ld md n a 
   unfolding scaledRuns
   scaled t j zero i h g v w s = s
   scaled t j (suc k) i h g v w s =
-      let c : Cell ld md n (ld * j + i) (md * j + i) = cell i j (omega arith) (omega arith) (omega arith) (omega arith) in
-      let d : Cell ld md n (ld * j + i + ld) (md * j + i + md) = cell i (j + 1) (omega arith) h (omega arith) (omega arith) in
+      let c : Paired ld md n (ld * j + i) (md * j + i) = cell i j (omega arith) in
+      let d : Paired ld md n (ld * j + i + ld) (md * j + i + md) = cell i (j + 1) (omega arith) in
       scaled t j k (i + 1) h (omega arith) _ _ (set-at K d (ap (mul f (neg (t .lower))) (same-at r d)) (set-at K c (ap (mul f (neg (t .upper))) (same-at r c)) s))
 
   start : (t : Start) (j : ℕ) → j + 1 < n → Keeps R (startBlock f ld j t) (startBlock f md j t)
   unfolding startBlock
   start t j h v w s =
-      let l : j < n = omega arith in
-      set-at K (cell (j + 1) j h l refl refl) refl
-      (set-at K (cell j (j + 1) l h refl refl) refl (set-at K (cell (j + 1) (j + 1) h h refl refl) refl (set-at K (cell j j l l refl refl) refl s)))
+      set-at K (cell (j + 1) j (omega arith)) refl
+      (set-at K (cell j (j + 1) (omega arith)) refl (set-at K (cell (j + 1) (j + 1) (omega arith)) refl (set-at K (cell j j (omega arith)) refl s)))
 
   cplx-columns : (norm : Float) (j : ℕ) → j + 1 < n → Keeps R (cplxColumns f ld a norm j) (cplxColumns f md b norm j)
   unfolding cplxColumns openColumns
