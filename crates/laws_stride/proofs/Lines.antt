@@ -47,7 +47,7 @@ module _ (f : Format) (ld md n : ℕ) {a b : List Float} (r : ReadsAs ld md n a 
   unfolding crosses twoBlock
   crosses-same e = ap (λ (x : Bool). ltb 0 e && x) (guarded (ltb (e - 1 + 1) n) _ _ (λ h. nonzero-same f (e - 1) (ltb-true _ n h) r))
 
-  pub line10-same : (j n1 n2 : ℕ) → line10 f ld n a j n1 n2 ≡ line10 f md n b j n1 n2
+  line10-same : (j n1 n2 : ℕ) → line10 f ld n a j n1 n2 ≡ line10 f md n b j n1 n2
   unfolding line10
   line10-same j n1 n2 = rw (crosses-same j, crosses-same (j + n1), crosses-same (j + n1 + n2))
 
