@@ -598,6 +598,14 @@ class Corners(Case):
             self.assertEqual(sheet[part].tobytes(), v.tobytes())
             self.assertEqual(self.beside(sheet, part), beside)
 
+        sheet = self.sheet(8, 8)
+        form = sheet[:6, :6]
+        form[:] = self.six()
+        vx.block_values(form, sheet[2:, 6], sheet[2:, 7])
+        self.assertEqual([sheet[2:, 6].tobytes(), sheet[2:, 7].tobytes()], [part.tobytes() for part in values])
+        vx.evd_from_real_schur(form, form)  # what is read is copied, so it may be what is written
+        self.assertEqual(numpy.triu(form).tobytes(), numpy.triu(vectors).tobytes())
+
     def test_columns(self):
         for order in "FC":
             sheet = self.sheet(9, 9, order)

@@ -29,11 +29,16 @@ say in a result and stays as it is.
     >>> sheet[6], sheet[12], sheet[8]
     (2.0, 1.0, 7.0)
 
-A call works in place, and all its buffers have one stride: the form's (for vectors, theirs). So what
-cannot be lent at this stride is lent as a copy, which is written back once the call is carried out:
-a factor with another stride, or in the rows beside the form, and a part that has not stride * n
-numbers from its first on, since it begins below row 0 and ends in the last column of its array.
-Nothing outside an array is lent.
+A call works in place, and at one stride: the form's, or that of vectors which are lent. What cannot
+be lent at this stride is lent as a copy, which is written back once the call is carried out: a
+factor of another stride, or one that stands in the rows beside the form; and a part with fewer than
+stride * n numbers from its first on, since it begins below row 0 and ends in the last column of its
+array. Nothing outside an array is lent.
+
+A stride below n or above 128 is refused with 17 where a part is to be written; what is only read is
+copied, whatever its stride. A buffer to be written raises TypeError if it is read-only, has another
+kind of numbers, or has those of a column not one after the other (C order, every second row, rows or
+columns backwards), and ValueError if it shares a number with another.
 
 The shared library, made by bindings/python/build, is VOLMEIXI_LIBRARY, or libvolmeixi.so beside
 this file, or the one in the repository's target/bindings.
@@ -460,7 +465,8 @@ def _changed(name, t, u, stride, *sizes, count):
 def reorder_schur(t, u, from_, to, *, stride=None):
     """Moves the block in row from_ of the form t to row to; the factor u, or None, goes along.
 
-    Both are changed in place. A position inside a 2-block means the block's first row. Gives Moved.
+    Both are changed in place. A position inside a 2-block means the block's first row. stride is that
+    of one dimension, if it is not n. Gives Moved.
     """
     return Moved(*_changed("reorder_schur", t, u, stride, from_, to, count=3))
 
@@ -468,7 +474,8 @@ def reorder_schur(t, u, from_, to, *, stride=None):
 def schur_swap(t, u, j0, n1, n2, *, stride=None):
     """Exchanges the n1 rows from row j0 on with the n2 rows below them. Gives Exchanged.
 
-    swaps is 1 to 4, and 4 exactly when n1 and n2 are 2, each with a zero inside.
+    swaps is 1 to 4, and 4 exactly when n1 and n2 are 2, each with a zero inside. Form, factor and
+    stride are as in reorder_schur.
     """
     return Exchanged(*_changed("schur_swap", t, u, stride, j0, n1, n2, count=2))
 
@@ -481,7 +488,8 @@ def block_values(t, re=None, im=None, *, stride=None):
 
     A 1-block gives its diagonal number and +0; a 2-block its first diagonal number twice, with m
     and then -m, where m is the root of the lower entry's magnitude times that of the upper's.
-    Written to re and im where they are lent, else to new arrays. Gives both.
+    Written to re and im where they are lent, else to new arrays. stride is that of a form of one
+    dimension, if it is not n. Gives both.
     """
     n, form = _rows(_given(t), stride, 3, "the form t")
     re, im = (_new(t, n) if part is None else part for part in (re, im))
@@ -498,7 +506,8 @@ def evd_from_real_schur(t, v=None, *, stride=None):
 
     A 1-block's column is its vector; a 2-block's two columns are the real and the imaginary part.
     A column is written from row 0 to the last row of its block; the rest stays as it was. Written
-    to v where it is lent, else to a new array, where the rest is zeros. Gives it.
+    to v where it is lent, else to a new array, where the rest is zeros. stride is that of one
+    dimension, if it is not n. Gives v.
     """
     n, form = _rows(_given(t), stride, 3, "the form t")
     if v is None:
@@ -510,7 +519,10 @@ def evd_from_real_schur(t, v=None, *, stride=None):
 
 
 def column(v, col, *, stride=None):
-    """Column col of the vectors v as a memoryview of n numbers, a part of v itself."""
+    """Column col of the vectors v, in any layout, as a memoryview of n numbers, a part of v itself.
+
+    stride is that of one dimension, if it is not n.
+    """
     view = _view(v)
     n, vectors = _rows(_Buffer(None, view.shape, _stride(view)), stride, 4, "v")
     col = _size(col)
