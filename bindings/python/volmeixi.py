@@ -369,8 +369,8 @@ def _reaches(n, stride, what):
 
 
 def _rows(buffer, stride, line, what):
-    """n of a buffer, which gets its stride: that of one dimension is the one given. Lines 2 and 17, and
-    the line for a buffer that has no n."""
+    """n, and the buffer with its stride: in one dimension the one given, or n. Lines 2 and 17, and the
+    line for a buffer that has no n."""
     size = math.prod(buffer.shape)
     if stride is None:
         n = math.isqrt(size)
@@ -391,7 +391,7 @@ def _rows(buffer, stride, line, what):
 
 
 def _beside(n, stride, buffer, what):
-    """A factor or vectors of n rows, with their stride: that of one dimension is the one given, or n."""
+    """A factor or vectors beside a form of n rows, with their stride as in _rows. Lines 17 and 4."""
     flat = n if stride is None else stride
     own = flat if len(buffer.shape) == 1 else n if buffer.stride is None else buffer.stride
     _reaches(n, own, what)
@@ -414,7 +414,7 @@ def _columns(n, buffer):
 
 
 def _apart(x, y, n=None):
-    """Two buffers that are written must not share a number; of n rows, what stands beside them they may."""
+    """Two buffers that are written must not share a number; of n rows, they may what stands beside these."""
     shared = _overlap(x, y)
     if shared and n is not None:
         shared = any(abs(p - q) < 8 * n for p in _columns(n, x) for q in _columns(n, y))
@@ -453,8 +453,8 @@ def _at_one_stride(n, *buffers):
 
 def _changed(name, t, u, stride, *sizes, count):
     """The results of a call that changes form and factor."""
-    n, t = _rows(_lent(t), stride, 3, "the form t")
-    u = _lent(array("d") if u is None else u)
+    t, u = _lent(t), _lent(array("d") if u is None else u)
+    n, t = _rows(t, stride, 3, "the form t")
     if math.prod(u.shape):
         u = _beside(n, stride, u, "the factor u")
         _apart(t, u, n)
