@@ -11,7 +11,7 @@ const UNWRITTEN: u64 = 0x4c0f_fee4_c0ff_ee77;
 /// The archive's answer, or `None` if the archive has no such call.
 pub fn answer(case: &Record) -> Option<Record> {
     let answer = run(case)?;
-    let strided = stride::base_of(case.call).is_some();
+    let strided = stride::taken_by(case.call);
     Some(if strided { stride::checked(case, answer) } else { answer }.settled())
 }
 
@@ -20,7 +20,7 @@ fn run(case: &Record) -> Option<Record> {
     let two = |f: unsafe extern "C" fn(f64, f64) -> f64, p, q| {
         Record::new(case.call).float("r", unsafe { f(case.f(p), case.f(q)) })
     };
-    Some(match stride::base_of(case.call).unwrap_or(case.call) {
+    Some(match stride::base_of(case.call) {
         "abs" => one(vx_abs()?),
         "abs1" => one(vx_abs1()?),
         "abs2" => one(vx_abs2()?),

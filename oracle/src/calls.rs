@@ -65,7 +65,7 @@ fn run(case: &Record) -> Record {
         "evd_from_real_schur" => vectors(case),
         "column" => column(case),
         "sheet" => Record::new(case.call).with("text", Value::Bytes(sheet::run(case.bytes("text")))),
-        call if stride::base_of(call).is_some() => strided(case),
+        call if stride::taken_by(call) => strided(case),
         other => unreachable!("no call {other}"),
     }
 }

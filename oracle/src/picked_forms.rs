@@ -154,7 +154,7 @@ pub fn list_set(mut case: Record, key: &str, change: impl Fn(&mut Vec<f64>)) -> 
 /// The case turned away by the line, and by no earlier one.
 pub fn spoilt(case: Record, line: usize) -> Record {
     let ld = stride::of(&case);
-    match (line, stride::base_of(case.call).unwrap_or(case.call)) {
+    match (line, stride::base_of(case.call)) {
         (17, _) => case.num_set("ld", stride::MOST + 1),
         (2, _) => case.num_set("n", TOO_MANY),
         (3, _) => list_set(case, "t", |t| t.push(7.0)),

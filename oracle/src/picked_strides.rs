@@ -43,7 +43,7 @@ fn spread(base: &Record, ld: usize) -> Record {
 /// The case in strides from the least on, and in the greatest.
 fn in_strides(base: &Record) -> Vec<Record> {
     let n = base.n("n");
-    [n, n + 1, n + 2, 2 * n + 1, MOST].iter().map(|ld| spread(base, *ld)).collect()
+    [n, n + 1, n + 2, 2 * n + 2, MOST].iter().map(|ld| spread(base, *ld)).collect()
 }
 
 /// One number everywhere beyond the corners; then zeros, but for row n, or for its last number alone,

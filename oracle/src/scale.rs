@@ -27,7 +27,7 @@ pub fn run(seed: u64, each: bool) -> io::Result<bool> {
         .iter()
         .map(|call| call.name)
         .filter(|name| !absent.contains(name))
-        .partition(|name| stride::base_of(name).is_some());
+        .partition(|name| stride::taken_by(name));
     let share = |count: u64, calls: usize| if each { count } else { (count + calls as u64 - 1) / calls as u64 };
     let plan = |calls: &[&'static str], count: u64, sizes: Sizes| Plan {
         calls: calls.to_vec(),

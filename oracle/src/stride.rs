@@ -18,9 +18,14 @@ const CALLS: [(&str, &str); 5] = [
 /// The buffers of stride × n numbers.
 pub const SQUARES: [&str; 3] = ["t", "u", "v"];
 
-/// The call on the corners; of a call without a stride, none.
-pub fn base_of(call: &str) -> Option<&'static str> {
-    CALLS.iter().find(|pair| pair.0 == call).map(|pair| pair.1)
+/// Whether a call takes a stride beside n.
+pub fn taken_by(call: &str) -> bool {
+    CALLS.iter().any(|pair| pair.0 == call)
+}
+
+/// The call on the corners; a call without a stride is itself.
+pub fn base_of(call: &'static str) -> &'static str {
+    CALLS.iter().find(|pair| pair.0 == call).map_or(call, |pair| pair.1)
 }
 
 /// The same call with a stride.
@@ -68,20 +73,20 @@ pub fn spread(base: &Record, ld: usize, mut beyond: impl FnMut(&[f64], usize, us
     case
 }
 
+/// The base call's case, on the whole buffers.
+fn without_stride(case: &Record) -> Record {
+    let fields = case.fields.iter().filter(|field| field.0 != "ld").cloned().collect();
+    Record { call: base_of(case.call), fields }
+}
+
 /// The base call's case, on the corners.
 pub fn corner(case: &Record) -> Record {
     let (n, ld) = (case.n("n"), case.n("ld"));
-    let mut base = Record::new(base_of(case.call).expect("a call with a stride"));
-    for (key, value) in case.fields.iter().filter(|field| field.0 != "ld") {
-        base = base.with(
-            key,
-            match value {
-                Value::List(whole) if SQUARES.contains(key) => {
-                    Value::List(whole.chunks(ld).flat_map(|column| &column[..n]).copied().collect())
-                }
-                other => other.clone(),
-            },
-        );
+    let mut base = without_stride(case);
+    for (_, value) in base.fields.iter_mut().filter(|field| SQUARES.contains(&field.0)) {
+        if let Value::List(list) = value {
+            *list = list.chunks(ld).flat_map(|column| &column[..n]).copied().collect();
+        }
     }
     base
 }
@@ -89,13 +94,13 @@ pub fn corner(case: &Record) -> Record {
 /// The base call's answer with its corners put into the buffers as they were lent.
 pub fn put_back(case: &Record, mut answer: Record) -> Record {
     let (n, ld) = (case.n("n"), case.n("ld"));
-    for (key, value) in &mut answer.fields {
-        if let (Value::List(corner), true) = (&*value, SQUARES.contains(key)) {
+    for (key, value) in answer.fields.iter_mut().filter(|field| SQUARES.contains(&field.0)) {
+        if let Value::List(list) = value {
             let mut whole = case.l(key).to_vec();
-            for (column, corner) in whole.chunks_mut(ld).zip(corner.chunks(n)) {
+            for (column, corner) in whole.chunks_mut(ld).zip(list.chunks(n)) {
                 column[..n].copy_from_slice(corner);
             }
-            *value = Value::List(whole);
+            *list = whole;
         }
     }
     Record { call: case.call, ..answer }
@@ -104,9 +109,7 @@ pub fn put_back(case: &Record, mut answer: Record) -> Record {
 /// The base call's answer to the case with no rows, a refusal that leaves the whole buffers, under
 /// another number.
 pub fn refused(case: &Record, number: usize, base_answer: impl Fn(&Record) -> Record) -> Record {
-    let fields = case.fields.iter().filter(|field| field.0 != "ld").cloned().collect();
-    let base = Record { call: base_of(case.call).expect("a call with a stride"), fields };
-    let answer = base_answer(&base.num_set("n", 0)).num_set("answer", number);
+    let answer = base_answer(&without_stride(case).num_set("n", 0)).num_set("answer", number);
     Record { call: case.call, ..answer }
 }
 

@@ -26,11 +26,11 @@ impl Tally {
         self.declined += u64::from(notes.declined > 0);
         if let Some(number) = number_of(answer) {
             *self.answers.entry(number).or_default() += 1;
-            if ["schur_swap", "schur_swap_ld"].contains(&answer.call) && number == 0 {
+            if stride::base_of(answer.call) == "schur_swap" && number == 0 {
                 *self.exchanges.entry(notes.swaps).or_default() += 1;
             }
         }
-        if stride::base_of(case.call).is_some() {
+        if stride::taken_by(case.call) {
             let classes = stride::classes(case, answer);
             classes.into_iter().for_each(|class| *self.classes.entry(class).or_default() += 1);
         }

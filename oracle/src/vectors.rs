@@ -117,7 +117,7 @@ fn cases(name: &str, random: u64, extent: &Extent) -> Vec<Record> {
 /// No list of a random line is longer than one row more than the usual makes it; with a stride, than
 /// six rows of twelve.
 fn storable(case: &Record) -> bool {
-    let most = if stride::base_of(case.call).is_some() { LONGEST_WITH_STRIDE } else { LONGEST };
+    let most = if stride::taken_by(case.call) { LONGEST_WITH_STRIDE } else { LONGEST };
     lists(case).all(|list| list.len() <= most)
 }
 

@@ -54,12 +54,11 @@ fn draw(rng: &mut Rng, call: &'static str, index: u64, sizes: Sizes) -> Record {
     if call == "sheet" {
         return sheet(rng, sizes);
     }
-    let base = stride::base_of(call);
-    let case = match on_form(rng, base.unwrap_or(call), sizes) {
+    let case = match on_form(rng, stride::base_of(call), sizes) {
+        Some(case) if stride::taken_by(call) => strides::spread(rng, &case),
         Some(case) => case,
         None => return small::case(call, rng, index),
     };
-    let case = if base.is_some() { strides::spread(rng, &case) } else { case };
     if rng.one_in(12) { damage::damage(rng, case) } else { case }
 }
 
