@@ -211,3 +211,27 @@ fn columns() -> Vec<Record> {
     cases.extend([(64, 63, 65), (TOO_MANY, 0, MOST)].map(|(n, col, ld)| spread(&a_column(n, col), ld)));
     cases
 }
+
+#[cfg(test)]
+mod tests {
+    use super::*;
+    use std::collections::BTreeSet;
+
+    /// Every line is told by some case, and no buffer is longer than 65 columns of the greatest stride.
+    #[test]
+    fn every_line_is_picked() {
+        let form = [0, 2, 3, 4, 5, 6, 17];
+        let calls = [
+            ("reorder_schur_ld", &[7][..]),
+            ("schur_swap_ld", &[7, 8, 9, 10]),
+            ("block_values_ld", &[]),
+            ("evd_from_real_schur_ld", &[]),
+        ];
+        for (call, further) in calls {
+            let told: BTreeSet<usize> = picked(call).iter().filter_map(number).collect();
+            assert_eq!(told, form.iter().chain(further).copied().collect(), "{call}");
+            let lists = |case: &Record| SQUARES.iter().filter_map(|key| case.lent(key)).map(<[f64]>::len).max();
+            assert!(picked(call).iter().filter_map(lists).max() <= Some(TOO_MANY * MOST), "{call}");
+        }
+    }
+}
