@@ -30,10 +30,10 @@ static inline void ours_sylvester(const double *tl, const double *tr, const doub
 
 // the row landed on, swaps, declined
 static inline size_t ours_move(size_t n, double *t, double *u, size_t from, size_t to, size_t *out) {
-    return vx_reorder_schur(n, t, n * n, u, u ? n * n : 0, from, to, out, out + 1, out + 2);
+    return vx_reorder_schur(n, n, t, n * n, u, u ? n * n : 0, from, to, out, out + 1, out + 2);
 }
 
 static inline size_t ours_vectors(size_t n, const double *t, double *v) {
-    return vx_evd_from_real_schur(n, t, n * n, v, n * n);
+    return vx_evd_from_real_schur(n, n, t, n * n, v, n * n);
 }
 #endif

@@ -9,12 +9,12 @@ ghost use Rattle.model.specs.Values.{imagSizeAt};
 ghost use Rattle.model.specs.Vectors as Vectors;
 ghost use Rattle.solve.specs.Sizes.{Square, Whole};
 ghost use Rattle.evd.specs.View.{start};
-ghost use Rattle.evd.specs.Further.{furtherLine};
+ghost use Rattle.form.specs.Lines.{furtherLine};
 use arith::real::abs;
 use arith::real::abs1;
-use form::form_line;
-use form::lines::before_4;
 use form::place;
+use form::shape_line;
+use form::size_line;
 use solve::block::imag_size;
 use solve::block::last_size;
 use solve::solve_cplx::solve_cplx_shifted_upper_quasi_triangular_system;
@@ -195,13 +195,16 @@ fn all_columns(ld: usize, n: usize, t: &[f64], v: &mut [f64])
 
 // The first line that applies to a form and vectors of so many numbers, or 0.
 fn vectors_line(ld: usize, n: usize, t: &[f64], len: usize) -> usize
-    ensures { λ r. ⌜ r ≡ furtherLine binary64 ld n (now (t .entry)) (not (eqb len (ld * n))) ⌝ }
+    ensures { λ r. ⌜ r ≡ furtherLine ld n (now (t .entry)) (not (eqb len (ld * n))) ⌝ }
 {
-    let line = form_line(ld, n, t);
-    if before_4(line) {
+    let line = size_line(ld, n, t);
+    if line != 0 {
         return line;
     }
-    if len != ld * n { 4 } else { line }
+    if len != ld * n {
+        return 4;
+    }
+    shape_line(ld, n, t)
 }
 
 // The vectors of the form t, or the number of the first line that applies.

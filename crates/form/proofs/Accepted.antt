@@ -9,19 +9,24 @@ use lib.Dec.{eqb, ltb, leb}
 use lib.ListN.{length}
 use lib.Ieee.{Float, binary64}
 use borrow.Author.Tests.{ltb-true, ltb-false, eqb-true, eqb-false, eq-eqb, ne-eqb, not-true, not-false}
-use Rattle.model.specs.Form.{line2, line17, line3, line4, line5, line6, line7, formLine}
+use Rattle.model.specs.Form.{line2, line17, line3, line4, line5, line6, line7}
 use Rattle.model.specs.Exchange.{line8, line9, line10, exchangeLine}
 use Rattle.model.specs.Move.{moveLine}
 use Rattle.form.specs.Run.{Sized, Beside, Rows}
-use Rattle.form.specs.Lines.{before4, acceptLine, sizesFit}
+use Rattle.form.specs.Lines.{sizeLine, shapeLine, furtherLine, sizesFit}
 
 -- ---- six tests: those of lines 2, 17 and 3 to 6
-abbrev accept : Bool → Bool → Bool → Bool → Bool → Bool → ℕ → ℕ
-accept b2 b17 b3 b4 b5 b6 rest = cond b2 2 (cond b17 17 (cond b3 3 (cond b4 4 (cond b5 5 (cond b6 6 rest)))))
+abbrev sizes3 : Bool → Bool → Bool → ℕ → ℕ
+sizes3 b2 b17 b3 rest = cond b2 2 (cond b17 17 (cond b3 3 rest))
 
--- without line 4
-abbrev formOnly : Bool → Bool → Bool → Bool → Bool → ℕ
-formOnly b2 b17 b3 b5 b6 = cond b2 2 (cond b17 17 (cond b3 3 (cond b5 5 (cond b6 6 0))))
+abbrev accept : Bool → Bool → Bool → Bool → Bool → Bool → ℕ → ℕ
+accept b2 b17 b3 b4 b5 b6 rest = sizes3 b2 b17 b3 (cond b4 4 (cond b5 5 (cond b6 6 rest)))
+
+sizes-first : (b2 b17 b3 : Bool) (rest : ℕ) → sizes3 b2 b17 b3 rest ≡ cond (eqb (sizes3 b2 b17 b3 0) 0) rest (sizes3 b2 b17 b3 0)
+sizes-first true b17 b3 rest = refl
+sizes-first false true b3 rest = refl
+sizes-first false false true rest = refl
+sizes-first false false false rest = refl
 
 onward : (b2 b17 b3 b4 b5 b6 : Bool) (rest : ℕ) → accept b2 b17 b3 b4 b5 b6 rest ≡ cond (eqb (accept b2 b17 b3 b4 b5 b6 0) 0) rest (accept b2 b17 b3 b4 b5 b6 0)
 onward true b17 b3 b4 b5 b6 rest = refl
@@ -31,20 +36,6 @@ onward false false false true b5 b6 rest = refl
 onward false false false false true b6 rest = refl
 onward false false false false false true rest = refl
 onward false false false false false false rest = refl
-
--- line 4 among the others
-among : (b2 b17 b3 b4 b5 b6 : Bool) → accept b2 b17 b3 b4 b5 b6 0 ≡ cond (before4 (formOnly b2 b17 b3 b5 b6)) (formOnly b2 b17 b3 b5 b6) (cond b4 4 (formOnly b2 b17 b3 b5 b6))
-among true b17 b3 b4 b5 b6 = refl
-among false true b3 b4 b5 b6 = refl
-among false false true b4 b5 b6 = refl
-among false false false b4 true b6 = refl
-among false false false b4 false true = refl
-among false false false b4 false false = refl
-
-not-early : (b2 b17 b3 b5 b6 : Bool) → before4 (formOnly b2 b17 b3 b5 b6) ≡ false → (b2 ≡ false) × (b17 ≡ false)
-not-early true b17 b3 b5 b6 h = absurd (true≢false h)
-not-early false true b3 b5 b6 h = absurd (true≢false h)
-not-early false false b3 b5 b6 h = (refl, refl)
 
 none : (b2 b17 b3 b4 b5 b6 : Bool) (rest : ℕ) → accept b2 b17 b3 b4 b5 b6 rest ≡ 0 → (b2 ≡ false) × (b17 ≡ false) × (b3 ≡ false) × (b4 ≡ false) × (rest ≡ 0)
 none true b17 b3 b4 b5 b6 rest h = absurd (omega arith)
@@ -105,28 +96,26 @@ is-size {k} a b = go (eqb k 1) (eqb k 2) (eqb-false k 1) (eqb-false k 2)
 pub no-size : {k : ℕ} → (k ≡ 1 → ⊥) → (k ≡ 2 → ⊥) → (eqb k 1 || eqb k 2) ≡ false
 no-size {k} a b = rw (ne-eqb k 1 a, ne-eqb k 2 b)
 
--- line 4 of a further buffer, whether it applies or not, among the lines of a form
-pub further : (ld n : ℕ) (t : List Float) (wrong : Bool)
-    → accept (line2 n) (line17 ld n) (line3 ld n t) wrong (line5 binary64 ld n t) (line6 binary64 ld n t) 0
-    ≡ cond (before4 (formLine binary64 ld n t)) (formLine binary64 ld n t) (cond wrong 4 (formLine binary64 ld n t))
-unfolding formLine
-further ld n t wrong = among (line2 n) (line17 ld n) (line3 ld n t) wrong (line5 binary64 ld n t) (line6 binary64 ld n t)
-
--- past the lines before line 4, n and the stride are small
-pub form-small : (ld n : ℕ) (t : List Float) → before4 (formLine binary64 ld n t) ≡ false → (n ≤ 64) × (ld ≤ 128)
-unfolding formLine
-form-small ld n t h =
-    let k = not-early (line2 n) (line17 ld n) (line3 ld n t) (line5 binary64 ld n t) (line6 binary64 ld n t) h in (small n (k .0), wide ld n (k .1) .1)
-
-module _ (ld n : ℕ) (t u : List Float) where
-  pub accept-by : acceptLine ld n t u ≡ cond (before4 (formLine binary64 ld n t)) (formLine binary64 ld n t) (cond (line4 ld n u) 4 (formLine binary64 ld n t))
-  unfolding acceptLine
-  accept-by = further ld n t (line4 ld n u)
-
+module _ (ld n : ℕ) (t : List Float) where
   sized : line2 n ≡ false → line17 ld n ≡ false → line3 ld n t ≡ false → Sized ld n t
   unfolding line3
   sized a w b = let k = wide ld n w in record { small = small n a; fits = k .0; near = k .1; whole = eqb-true (length t) (ld * n) (not-false (eqb (length t) (ld * n)) b) }
 
+  -- the lines of sizes do not apply
+  pub size-accepted : sizeLine ld n t ≡ 0 → Sized ld n t
+  unfolding sizeLine
+  size-accepted h = let k = none (line2 n) (line17 ld n) (line3 ld n t) false false false 0 h in sized (k .0) (k .1) (k .2)
+
+  -- with a further buffer, the lines of sizes are told first
+  pub further-first : (wrong : Bool) → furtherLine ld n t wrong ≡ cond (eqb (sizeLine ld n t) 0) (cond wrong 4 (shapeLine ld n t)) (sizeLine ld n t)
+  unfolding furtherLine sizeLine shapeLine
+  further-first wrong = sizes-first (line2 n) (line17 ld n) (line3 ld n t) (cond wrong 4 (cond (line5 binary64 ld n t) 5 (cond (line6 binary64 ld n t) 6 0)))
+
+  pub further-accepted : (wrong : Bool) → furtherLine ld n t wrong ≡ 0 → Sized ld n t × (wrong ≡ false)
+  unfolding furtherLine
+  further-accepted wrong h = let k = none (line2 n) (line17 ld n) (line3 ld n t) wrong (line5 binary64 ld n t) (line6 binary64 ld n t) 0 h in (sized (k .0) (k .1) (k .2), k .3)
+
+module _ (ld n : ℕ) (t u : List Float) where
   beside : line4 ld n u ≡ false → Beside ld n u
   unfolding line4
   beside h = go (either (eqb (length u) (ld * n)) (eqb (length u) 0) (not-false (eqb (length u) (ld * n) || eqb (length u) 0) h))
@@ -140,15 +129,12 @@ module _ (ld n : ℕ) (t u : List Float) where
   below p h = ltb-true p n (not-false (ltb p n) h)
 
   -- lines 2, 17 and 3 to 6 do not apply
-  pub accepted : acceptLine ld n t u ≡ 0 → Sized ld n t × Beside ld n u
-  unfolding acceptLine
-  accepted h =
-      let k = none (line2 n) (line17 ld n) (line3 ld n t) (line4 ld n u) (line5 binary64 ld n t) (line6 binary64 ld n t) 0 h in
-      (sized (k .0) (k .1) (k .2), beside (k .3))
+  pub accepted : furtherLine ld n t (line4 ld n u) ≡ 0 → Sized ld n t × Beside ld n u
+  accepted h = let k = further-accepted ld n t (line4 ld n u) h in (k .0, beside (k .1))
 
   module _ (from to : ℕ) where
-    pub move-on : (l : ℕ) → l ≡ acceptLine ld n t u → moveLine binary64 ld n t u from to ≡ cond (eqb l 0) (cond (line7 n from) 7 (cond (line7 n to) 7 0)) l
-    unfolding moveLine acceptLine
+    pub move-on : (l : ℕ) → l ≡ furtherLine ld n t (line4 ld n u) → moveLine binary64 ld n t u from to ≡ cond (eqb l 0) (cond (line7 n from) 7 (cond (line7 n to) 7 0)) l
+    unfolding moveLine furtherLine
     move-on l e =
         onward (line2 n) (line17 ld n) (line3 ld n t) (line4 ld n u) (line5 binary64 ld n t) (line6 binary64 ld n t) (cond (line7 n from) 7 (cond (line7 n to) 7 0))
         ∙ ap (λ (z : ℕ). cond (eqb z 0) (cond (line7 n from) 7 (cond (line7 n to) 7 0)) z) (sym e)
@@ -158,7 +144,7 @@ module _ (ld n : ℕ) (t u : List Float) where
     move-accepted h =
         let k = none (line2 n) (line17 ld n) (line3 ld n t) (line4 ld n u) (line5 binary64 ld n t) (line6 binary64 ld n t) (cond (line7 n from) 7 (cond (line7 n to) 7 0)) h in
         let m = go (line7 n from) (line7 n to) (k .4) in
-        (sized (k .0) (k .1) (k .2), beside (k .3), below from (m .0), below to (m .1))
+        (sized ld n t (k .0) (k .1) (k .2), beside (k .3), below from (m .0), below to (m .1))
       where
         go : (a b : Bool) → _≡_ {A = ℕ} (cond a 7 (cond b 7 0)) 0 → (a ≡ false) × (b ≡ false)
         go true b e = absurd (omega arith)
@@ -169,8 +155,8 @@ module _ (ld n : ℕ) (t u : List Float) where
     abbrev rest : ℕ
     rest = cond (line7 n j) 7 (cond (line8 n1 n2) 8 (cond (line9 n j n1 n2) 9 (cond (line10 binary64 ld n t j n1 n2) 10 0)))
 
-    pub exchange-on : (l : ℕ) → l ≡ acceptLine ld n t u → exchangeLine binary64 ld n t u j n1 n2 ≡ cond (eqb l 0) rest l
-    unfolding exchangeLine acceptLine
+    pub exchange-on : (l : ℕ) → l ≡ furtherLine ld n t (line4 ld n u) → exchangeLine binary64 ld n t u j n1 n2 ≡ cond (eqb l 0) rest l
+    unfolding exchangeLine furtherLine
     exchange-on l e =
         onward (line2 n) (line17 ld n) (line3 ld n t) (line4 ld n u) (line5 binary64 ld n t) (line6 binary64 ld n t) rest
         ∙ ap (λ (z : ℕ). cond (eqb z 0) rest z) (sym e)
@@ -185,7 +171,7 @@ module _ (ld n : ℕ) (t u : List Float) where
         let k = none (line2 n) (line17 ld n) (line3 ld n t) (line4 ld n u) (line5 binary64 ld n t) (line6 binary64 ld n t) rest h in
         let m = go (line7 n j) (line8 n1 n2) (line9 n j n1 n2) (line10 binary64 ld n t j n1 n2) (k .4) in
         let s = sizes n1 n2 (fits (m .0)) in
-        (sized (k .0) (k .1) (k .2), beside (k .3), record { one1 = s .0; two1 = s .1; one2 = s .2; two2 = s .3; inside = ltb-false n (j + n1 + n2) (m .1) })
+        (sized ld n t (k .0) (k .1) (k .2), beside (k .3), record { one1 = s .0; two1 = s .1; one2 = s .2; two2 = s .3; inside = ltb-false n (j + n1 + n2) (m .1) })
       where
         go : (a b d e : Bool) → _≡_ {A = ℕ} (cond a 7 (cond b 8 (cond d 9 (cond e 10 0)))) 0 → (b ≡ false) × (d ≡ false)
         go true b d e i = absurd (omega arith)

@@ -1,13 +1,14 @@
 // Inside (`swaps`, `schur`, `solve`, `evd`): what speaks of a form. The lines of document 01's list that it
 // meets by itself, the places of its numbers, its blocks, and the lines of a move and an exchange.
 ghost use mathlib.Core.Path.{_≡_};
-ghost use mathlib.Core.Bool.{_||_, _&&_, cond};
+ghost use mathlib.Core.Bool.{_||_, _&&_};
 ghost use Prim.Native.Nat.{ℕ, _+_, _-_, _*_, _<_, _≤_};
 ghost use lib.ListN.{length};
 ghost use lib.Ieee.{binary64, ne, ofBits};
 ghost use Rattle.model.specs.Form as Form;
 ghost use Rattle.model.specs.Form.{at, some};
 ghost use Rattle.form.specs.Run.{Sized};
+ghost use Rattle.form.specs.Lines.{sizeLine, shapeLine};
 use crate::blocks::nonzero_below;
 
 pub mod blocks;
@@ -129,9 +130,9 @@ fn touching(ld: usize, n: usize, t: &[f64]) -> bool
 }
 
 // 5 or 6, the first that applies, or 0.
-fn shape_line(ld: usize, n: usize, t: &[f64]) -> usize
+pub fn shape_line(ld: usize, n: usize, t: &[f64]) -> usize
     requires { ⌜ Sized ld n (now t) ⌝ }
-    ensures { λ r. ⌜ r ≡ cond (Form.line5 binary64 ld n (now (t .entry))) 5 (cond (Form.line6 binary64 ld n (now (t .entry))) 6 0) ⌝ }
+    ensures { λ r. ⌜ r ≡ shapeLine ld n (now (t .entry)) ⌝ }
 {
     let far = deep(ld, n, t);
     let near = touching(ld, n, t);
@@ -141,9 +142,9 @@ fn shape_line(ld: usize, n: usize, t: &[f64]) -> usize
     if near { 6 } else { 0 }
 }
 
-// The first line that applies to a form by itself, 2, 17, 3, 5 or 6, or 0.
-pub fn form_line(ld: usize, n: usize, t: &[f64]) -> usize
-    ensures { λ r. ⌜ r ≡ Form.formLine binary64 ld n (now (t .entry)) ⌝ }
+// 2, 17 or 3, the first that applies, or 0: past them stride × n may be formed.
+pub fn size_line(ld: usize, n: usize, t: &[f64]) -> usize
+    ensures { λ r. ⌜ r ≡ sizeLine ld n (now (t .entry)) ⌝ }
 {
     if n == 0 {
         return 2;
@@ -160,5 +161,5 @@ pub fn form_line(ld: usize, n: usize, t: &[f64]) -> usize
     if t.len() != ld * n {
         return 3;
     }
-    shape_line(ld, n, t)
+    0
 }

@@ -2,33 +2,25 @@
 ghost use mathlib.Core.Path.{_≡_};
 ghost use Prim.Native.Nat.{_+_, _≤_, _<_};
 ghost use lib.Ieee.{binary64};
+ghost use Rattle.model.specs.Form.{line4};
 ghost use Rattle.model.specs.Exchange as Exchange;
 ghost use Rattle.model.specs.Move as Move;
 ghost use Rattle.form.specs.Run.{Sized};
-ghost use Rattle.form.specs.Lines.{before4, acceptLine, sizesFit};
+ghost use Rattle.form.specs.Lines.{furtherLine, sizesFit};
 use crate::blocks::crosses;
-use crate::form_line;
-
-// Whether a line of a form by itself is told before line 4: only past these is stride × n formed.
-pub fn before_4(line: usize) -> bool
-    ensures { λ r. ⌜ r ≡ before4 line ⌝ }
-{
-    (line == 2) | (line == 17) | (line == 3)
-}
+use crate::shape_line;
+use crate::size_line;
 
 // Lines 2, 17 and 3 to 6: of form and factor.
 fn accept_line(ld: usize, n: usize, t: &[f64], u: &[f64]) -> usize
-    ensures { λ r. ⌜ r ≡ acceptLine ld n (now (t .entry)) (now (u .entry)) ⌝ }
+    ensures { λ r. ⌜ r ≡ furtherLine ld n (now (t .entry)) (line4 ld n (now (u .entry))) ⌝ }
 {
-    let line = form_line(ld, n, t);
-    if before_4(line) {
+    let line = size_line(ld, n, t);
+    if line != 0 {
         return line;
     }
-    if u.len() == ld * n {
-        return line;
-    }
-    if u.len() == 0 {
-        return line;
+    if (u.len() == ld * n) | (u.len() == 0) {
+        return shape_line(ld, n, t);
     }
     4
 }

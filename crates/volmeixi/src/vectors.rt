@@ -7,7 +7,13 @@ ghost use Rattle.model.specs.Vectors as Vectors;
 
 // The values of the form's blocks: 0, or the first line that applies.
 #[no_mangle]
-pub extern "C" fn vx_block_values(n: usize, ld: usize, t: &[f64], re: &mut [f64], im: &mut [f64]) -> usize
+pub extern "C" fn vx_block_values(
+    n: usize,
+    ld: usize,
+    t: &[f64],
+    re: &mut [f64],
+    im: &mut [f64],
+) -> usize
     ensures { λ r. ⌜ (record { answer = r; parts = record { re = now (re .exit); im = now (im .exit) } }) ≡ Values.blockValues binary64 ld n (now (t .entry)) (record { re = now (re .entry); im = now (im .entry) }) ⌝ }
 {
     evd::values::block_values(n, ld, t, re, im)

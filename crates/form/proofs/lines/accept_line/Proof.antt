@@ -1,7 +1,7 @@
 -- `form::lines::accept_line` meets its contract. Assumes nothing.
 use native.Mathlib.Nat.{mul-le-mul}
 use Rattle.model.specs.Form.{line4}
-use Rattle.form.proofs.Accepted.{accept-by, form-small}
+use Rattle.form.proofs.Accepted.{size-accepted, further-first}
 use borrow.Author.Tests.{eq-eqb, ne-eqb}
 use mathlib.Core.Path.{sym, _∙_}
 use native.Mathlib.Omega.{arith}
@@ -9,45 +9,33 @@ use borrow.Author.Needs.{needs}
 use Rattle.form.proofs.lines.accept_line.Statement.{statement}
 use Rattle.form.proofs.lines.accept_line.Tie as tie
 
-form-line-requires : tie.Need-form-line-requires
-form-line-requires c κs = search needs
-
-before-4-requires : tie.Need-before-4-requires
-before-4-requires c κs = search needs
+size-line-requires : tie.Need-size-line-requires
+size-line-requires c κs = search needs
 
 returns : tie.Need-returns
-returns c =
-    let b = c .before in
-    rw (accept-by, ← b .before .form-line .ensures, ← b .before-4 .ensures, c .if1 .taken)
+returns c = rw (further-first, ← c .before .size-line .ensures, ne-eqb _ _ (c .if1 .taken))
 
 mul-if2 : tie.Need-mul-if2
 mul-if2 c =
-    let b = c .before in
-    let l = b .before in
-    let h = form-small _ _ _ (rw (l .form-line .ensures) at (sym (b .before-4 .ensures) ∙ c .if1 .left)) in omega (arith, mul-le-mul (h .1) (h .0))
+    let h = size-accepted _ _ _ (sym (c .before .size-line .ensures) ∙ c .if1 .left) in omega (arith, mul-le-mul (h .near) (h .small))
+
+shape-line-requires : tie.Need-shape-line-requires
+shape-line-requires c κs =
+    let i = c .before in
+    size-accepted _ _ _ (sym (i .before .size-line .ensures) ∙ i .if1 .left)
 
 returns-2 : tie.Need-returns-2
 unfolding line4
 returns-2 c =
-    let i = c .before in
-    let b = i .before in
-    rw (accept-by, ← b .before .form-line .ensures, ← b .before-4 .ensures, i .if1 .left, eq-eqb _ _ (c .if2 .taken))
+    let j = c .before in
+    let i = j .before in
+    rw (further-first, ← i .before .size-line .ensures, eq-eqb _ _ (i .if1 .left), j .if2 .taken) (c .shape-line .ensures)
 
 returns-3 : tie.Need-returns-3
 unfolding line4
 returns-3 c =
-    let j = c .before in
-    let i = j .before in
-    let b = i .before in
-    rw (accept-by, ← b .before .form-line .ensures, ← b .before-4 .ensures, i .if1 .left, ne-eqb _ _ (j .if2 .left), eq-eqb _ _ (c .if3 .taken))
-
-returns-4 : tie.Need-returns-4
-unfolding line4
-returns-4 c =
-    let j = c .before in
-    let i = j .before in
-    let b = i .before in
-    rw (accept-by, ← b .before .form-line .ensures, ← b .before-4 .ensures, i .if1 .left, ne-eqb _ _ (j .if2 .left), ne-eqb _ _ (c .if3 .left))
+    let i = c .before in
+    rw (further-first, ← i .before .size-line .ensures, eq-eqb _ _ (i .if1 .left), c .if2 .left)
 
 pub accept-line-spec : {M : Type 1} → statement M
-accept-line-spec = tie.close (tie.spec form-line-requires before-4-requires returns mul-if2 returns-2 returns-3 returns-4)
+accept-line-spec = tie.close (tie.spec size-line-requires returns mul-if2 shape-line-requires returns-2 returns-3)
