@@ -146,16 +146,10 @@ pub fn shape_line(ld: usize, n: usize, t: &[f64]) -> usize
 pub fn size_line(ld: usize, n: usize, t: &[f64]) -> usize
     ensures { λ r. ⌜ r ≡ sizeLine ld n (now (t .entry)) ⌝ }
 {
-    if n == 0 {
+    if (n == 0) | (64 < n) {
         return 2;
     }
-    if 64 < n {
-        return 2;
-    }
-    if ld < n {
-        return 17;
-    }
-    if 128 < ld {
+    if (ld < n) | (128 < ld) {
         return 17;
     }
     if t.len() != ld * n {
