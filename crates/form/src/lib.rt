@@ -83,7 +83,8 @@ fn deep_rows(ld: usize, t: &[f64], top: usize, rows: usize) -> bool
     any_in_corner(ld, t, top + 1 + ld * whole, rows)
 }
 
-// Line 5, from the last rows up: eight rows at a time, then four, then one.
+// Line 5, from the last rows up: eight rows at a time, then four, then one. The first two rows have no
+// such entry.
 fn deep(ld: usize, n: usize, t: &[f64]) -> bool
     requires { ⌜ Sized ld n (now t) ⌝ }
     ensures { λ r. ⌜ r ≡ Form.line5 binary64 ld n (now (t .entry)) ⌝ }
@@ -101,7 +102,7 @@ fn deep(ld: usize, n: usize, t: &[f64]) -> bool
         }
         m -= 4;
     }
-    while 1 < m {
+    while 2 < m {
         if deep_rows(ld, t, m - 1, 1) {
             return true;
         }

@@ -37,12 +37,19 @@ pub fn rotate_form(
     rotate_run(&mut *t, rot, 1, i, q0, q1);
 }
 
-// The same of the factor's columns.
+// The same of the factor's columns. At the stride n the compiler sees that one column ends where the
+// next begins, and does not look whether they overlap.
 pub fn rotate_factor(u: &mut [f64], ld: usize, n: usize, rot: JacobiRotation, x: usize, y: usize)
     requires { ⌜ Beside ld n (now u) × (n ≤ 64) × (n ≤ ld) × (ld ≤ 128) × (x < n) × (y < n) ⌝ }
     ensures { λ _. ⌜ now (u .exit) ≡ Columns.onColumns binary64 ld (factorRows n (now (u .entry))) (Columns.rotates (rotation rot) x y) (now (u .entry)) ⌝ }
 {
     if u.len() == 0 {
+        return;
+    }
+    if ld == n {
+        let q0 = place(n, n, 0, x);
+        let q1 = place(n, n, 0, y);
+        rotate_run(&mut *u, rot, 1, n, q0, q1);
         return;
     }
     let q0 = place(ld, n, 0, x);
