@@ -63,9 +63,10 @@ fn progress(text: &str) {
     }
 }
 
-/// What is asked of moves of more than one exchange and of vectors: docs/BENCHMARKS.md.
-fn target(n: usize) -> f64 {
-    if n >= 16 { 1.0 } else { 1.5 }
+/// What is asked of moves of more than one exchange and of vectors at the stride n, and nothing at
+/// another: docs/BENCHMARKS.md.
+fn target(form: &Form) -> Option<f64> {
+    (form.ld == form.n).then(|| if form.n >= 16 { 1.0 } else { 1.5 })
 }
 
 type Moves = fn(&Form) -> Vec<(usize, usize)>;
@@ -103,7 +104,7 @@ fn moves(plan: &Plan, sides: &Sides, report: &mut Report) -> Table {
                     let times = time_moves(plan, sides, &form, with_factor, &moves);
                     let ratios: Vec<Spread> = (1..4).map(|k| times.ratio(0, k, plan.least)).collect();
                     report.same_call(format!("{} {suffix} n = {n} {stride:?} {moves:?}", kind.name()), &ratios);
-                    let said = report.add(&name, n, (swaps > 1).then(|| target(n)), &ratios, &times);
+                    let said = report.add(&name, n, target(&form).filter(|_| swaps > 1), &ratios, &times);
                     table.add(vec![
                         what.to_string(),
                         kind.name().to_string(),
@@ -245,7 +246,7 @@ fn vectors(plan: &Plan, sides: &Sides, report: &mut Report) -> Table {
             start.elapsed()
         });
         let ratios: Vec<Spread> = (1..4).map(|k| times.ratio(0, k, plan.least)).collect();
-        let said = report.add(&name, n, Some(target(n)), &ratios, &times);
+        let said = report.add(&name, n, target(&form), &ratios, &times);
         table.add(vec![
             what,
             kind.name().to_string(),
