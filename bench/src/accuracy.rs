@@ -60,7 +60,7 @@ fn moves(sides: &[Side; 3], forms: u64, markdown: bool) {
                 for (k, side) in sides.iter().enumerate() {
                     let (mut t, mut q) = (form.t.clone(), unit(n));
                     for (from, to) in form.reversal() {
-                        assert!(side.reorder(n, &mut t, &mut q, from, to) == 0, "{} declines", NAMES[k]);
+                        assert!(side.reorder(n, n, &mut t, &mut q, from, to) == 0, "{} declines", NAMES[k]);
                     }
                     // QᵀTQ is the turned form of (TQ)ᵀQ.
                     let product = Square::of(n, &form.t).times(&q).turned().times(&q).turned();
@@ -130,7 +130,7 @@ fn vectors(sides: &[Side; 3], forms: u64, markdown: bool) {
                     .iter()
                     .map(|side| {
                         let mut v = vec![0.0; n * n];
-                        assert!(side.vectors(n, &form.t, &mut v) == 0);
+                        assert!(side.vectors(n, n, &form.t, &mut v) == 0);
                         v
                     })
                     .collect();

@@ -40,6 +40,8 @@ impl Kind {
 
 pub struct Form {
     pub n: usize,
+    /// Places from one column to the next.
+    pub ld: usize,
     pub sizes: Vec<usize>,
     /// Column after column.
     pub t: Vec<f64>,
@@ -72,7 +74,17 @@ impl Form {
             }
             row += size;
         }
-        Form { n, sizes, t }
+        Form { n, ld: n, sizes, t }
+    }
+
+    /// The same form in the corner of a larger sheet.
+    pub fn spread(self, ld: usize) -> Form {
+        Form { ld, t: spread(self.n, ld, &self.t), ..self }
+    }
+
+    /// The unit in the form's own stride, as a factor; or none.
+    pub fn factor(&self, with_factor: bool) -> Vec<f64> {
+        if with_factor { spread(self.n, self.ld, &unit(self.n)) } else { Vec::new() }
     }
 
     /// The first row of each block.
@@ -106,6 +118,13 @@ impl Form {
         }
         moves
     }
+}
+
+/// A square of n rows, column after column a stride apart, with NaNs beyond its rows.
+fn spread(n: usize, ld: usize, square: &[f64]) -> Vec<f64> {
+    let mut whole = vec![f64::NAN; ld * n];
+    whole.chunks_mut(ld).zip(square.chunks(n)).for_each(|(column, rows)| column[..n].copy_from_slice(rows));
+    whole
 }
 
 pub fn unit(n: usize) -> Vec<f64> {

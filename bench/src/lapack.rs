@@ -82,18 +82,19 @@ impl Lapack {
 
     /// A move; hands back INFO. Rows count from 0. LAPACK only writes to its work space first, so it is
     /// not filled here, which would be timed too.
-    pub fn reorder(&self, n: usize, t: &mut [f64], u: &mut [f64], from: usize, to: usize) -> c_int {
+    pub fn reorder(&self, n: usize, ld: usize, t: &mut [f64], u: &mut [f64], from: usize, to: usize) -> c_int {
         let mut work = MaybeUninit::<[f64; MOST]>::uninit();
-        let (size, mut ifst, mut ilst, mut info) = (n as c_int, from as c_int + 1, to as c_int + 1, 0);
+        let (size, stride, mut ifst, mut ilst, mut info) =
+            (n as c_int, ld as c_int, from as c_int + 1, to as c_int + 1, 0);
         let wanted = if u.is_empty() { b'N' } else { b'V' } as c_char;
         unsafe {
             (self.dtrexc)(
                 &wanted,
                 &size,
                 t.as_mut_ptr(),
-                &size,
+                &stride,
                 u.as_mut_ptr(),
-                &size,
+                &stride,
                 &mut ifst,
                 &mut ilst,
                 work.as_mut_ptr().cast(),
@@ -105,10 +106,10 @@ impl Lapack {
     }
 
     /// The vectors by dtrevc3, the routine that LAPACK's own drivers call.
-    pub fn vectors(&self, n: usize, t: &[f64], v: &mut [f64]) -> c_int {
+    pub fn vectors(&self, n: usize, ld: usize, t: &[f64], v: &mut [f64]) -> c_int {
         let mut work = MaybeUninit::<[f64; 3 * MOST]>::uninit();
         let mut select = MaybeUninit::<[c_int; MOST]>::uninit();
-        let (size, lwork, mut m, mut info, mut none) = (n as c_int, 3 * n as c_int, 0, 0, [0.0]);
+        let (size, stride, lwork, mut m, mut info, mut none) = (n as c_int, ld as c_int, 3 * n as c_int, 0, 0, [0.0]);
         unsafe {
             (self.dtrevc3)(
                 &(b'R' as c_char),
@@ -116,11 +117,11 @@ impl Lapack {
                 select.as_mut_ptr().cast(),
                 &size,
                 t.as_ptr(),
-                &size,
+                &stride,
                 none.as_mut_ptr(),
                 &1,
                 v.as_mut_ptr(),
-                &size,
+                &stride,
                 &size,
                 &mut m,
                 work.as_mut_ptr().cast(),

@@ -1,4 +1,4 @@
-//! Who is timed: our archive, the Rust, and two LAPACKs.
+//! Who is timed: our archive, the Rust, and two LAPACKs. All take a stride `ld`, the Rust in its views.
 
 use crate::arith;
 use crate::lapack::Lapack;
@@ -8,6 +8,7 @@ use crate::taken::{eigen, evd};
 extern "C" {
     fn vx_reorder_schur(
         n: usize,
+        ld: usize,
         t: *mut f64,
         t_len: usize,
         u: *mut f64,
@@ -18,9 +19,10 @@ extern "C" {
         swaps: *mut usize,
         declined: *mut usize,
     ) -> usize;
-    fn vx_evd_from_real_schur(n: usize, t: *const f64, t_len: usize, v: *mut f64, v_len: usize) -> usize;
+    fn vx_evd_from_real_schur(n: usize, ld: usize, t: *const f64, t_len: usize, v: *mut f64, v_len: usize) -> usize;
     fn vx_block_values(
         n: usize,
+        ld: usize,
         t: *const f64,
         t_len: usize,
         re: *mut f64,
@@ -42,31 +44,32 @@ pub enum Side {
 impl Side {
     /// A move; hands back 0 if it was carried out.
     #[inline(always)]
-    pub fn reorder(&self, n: usize, t: &mut [f64], u: &mut [f64], from: usize, to: usize) -> usize {
+    pub fn reorder(&self, n: usize, ld: usize, t: &mut [f64], u: &mut [f64], from: usize, to: usize) -> usize {
         match self {
-            Side::Ours => our_reorder(n, t, u, from, to).0,
-            Side::Rust => rust_reorder(n, t, u, from, to),
-            Side::Lapack(lapack) => lapack.reorder(n, t, u, from, to) as usize,
+            Side::Ours => our_reorder(n, ld, t, u, from, to).0,
+            Side::Rust => rust_reorder(n, ld, t, u, from, to),
+            Side::Lapack(lapack) => lapack.reorder(n, ld, t, u, from, to) as usize,
         }
     }
 
     #[inline(always)]
-    pub fn vectors(&self, n: usize, t: &[f64], v: &mut [f64]) -> usize {
+    pub fn vectors(&self, n: usize, ld: usize, t: &[f64], v: &mut [f64]) -> usize {
         match self {
-            Side::Ours => unsafe { vx_evd_from_real_schur(n, t.as_ptr(), t.len(), v.as_mut_ptr(), v.len()) },
-            Side::Rust => rust_vectors(n, t, v),
-            Side::Lapack(lapack) => lapack.vectors(n, t, v) as usize,
+            Side::Ours => unsafe { vx_evd_from_real_schur(n, ld, t.as_ptr(), t.len(), v.as_mut_ptr(), v.len()) },
+            Side::Rust => rust_vectors(n, ld, t, v),
+            Side::Lapack(lapack) => lapack.vectors(n, ld, t, v) as usize,
         }
     }
 }
 
 /// The number and the counts: landed, swaps, declined.
 #[inline(always)]
-pub fn our_reorder(n: usize, t: &mut [f64], u: &mut [f64], from: usize, to: usize) -> (usize, [usize; 3]) {
+pub fn our_reorder(n: usize, ld: usize, t: &mut [f64], u: &mut [f64], from: usize, to: usize) -> (usize, [usize; 3]) {
     let [mut landed, mut swaps, mut declined] = [0; 3];
     let number = unsafe {
         vx_reorder_schur(
             n,
+            ld,
             t.as_mut_ptr(),
             t.len(),
             u.as_mut_ptr(),
@@ -82,9 +85,9 @@ pub fn our_reorder(n: usize, t: &mut [f64], u: &mut [f64], from: usize, to: usiz
 }
 
 #[inline(never)]
-fn rust_reorder(n: usize, t: &mut [f64], u: &mut [f64], from: usize, to: usize) -> usize {
-    let factor = if u.is_empty() { None } else { Some(MatMut::from_slice(u, n, n)) };
-    eigen::reorder_schur(MatMut::from_slice(t, n, n), factor, from, to);
+fn rust_reorder(n: usize, ld: usize, t: &mut [f64], u: &mut [f64], from: usize, to: usize) -> usize {
+    let factor = if u.is_empty() { None } else { Some(MatMut::with_stride(u, n, n, ld)) };
+    eigen::reorder_schur(MatMut::with_stride(t, n, n, ld), factor, from, to);
     0
 }
 
@@ -92,19 +95,20 @@ fn rust_reorder(n: usize, t: &mut [f64], u: &mut [f64], from: usize, to: usize) 
 const PARAMS: EvdFromSchurParams = EvdFromSchurParams { recursion_threshold: 65 };
 
 #[inline(never)]
-fn rust_vectors(n: usize, t: &[f64], v: &mut [f64]) -> usize {
-    evd::evd_from_real_schur_imp(MatRef::from_slice(t, n, n), MatMut::from_slice(v, n, n), Par::Seq, PARAMS);
+fn rust_vectors(n: usize, ld: usize, t: &[f64], v: &mut [f64]) -> usize {
+    let (form, vectors) = (MatRef::with_stride(t, n, n, ld), MatMut::with_stride(v, n, n, ld));
+    evd::evd_from_real_schur_imp(form, vectors, Par::Seq, PARAMS);
     0
 }
 
-pub fn our_values(n: usize, t: &[f64], re: &mut [f64], im: &mut [f64]) -> usize {
-    unsafe { vx_block_values(n, t.as_ptr(), t.len(), re.as_mut_ptr(), re.len(), im.as_mut_ptr(), im.len()) }
+pub fn our_values(n: usize, ld: usize, t: &[f64], re: &mut [f64], im: &mut [f64]) -> usize {
+    unsafe { vx_block_values(n, ld, t.as_ptr(), t.len(), re.as_mut_ptr(), re.len(), im.as_mut_ptr(), im.len()) }
 }
 
 /// The Rust's loop writes vectors too; here they have no rows.
 #[inline(never)]
-pub fn rust_values(n: usize, t: &[f64], values: &mut [Complex<f64>]) {
-    let (form, mut unused) = (MatRef::from_slice(t, n, n), []);
+pub fn rust_values(n: usize, ld: usize, t: &[f64], values: &mut [Complex<f64>]) {
+    let (form, mut unused) = (MatRef::with_stride(t, n, n, ld), []);
     eigen::block_values(form, MatRef::from_slice(&[], 0, n), values, MatMut::from_slice(&mut unused, 0, n));
 }
 

@@ -1,7 +1,7 @@
 //! Times moves, vectors and values, and prints them as ratios.
 
 use crate::arithmetic::arithmetic;
-use crate::forms::{Form, Kind, unit};
+use crate::forms::{Form, Kind};
 use crate::opaque::black_box;
 use crate::progress::on_terminal;
 use crate::report::{NAMES, Report, nanoseconds, shown};
@@ -13,6 +13,8 @@ use std::time::{Duration, Instant};
 
 pub const SIZES: [usize; 5] = [4, 8, 16, 32, 64];
 pub const SEED: u64 = 2026;
+/// The stride of the rows on the corner of a larger sheet, the greatest; in the others it is n.
+const STRIDE: usize = 128;
 /// Copies lent in one timed batch take no more than this, so that they stay in the second cache.
 const BATCH_BYTES: usize = 128 << 10;
 const MOST_COPIES: usize = 256;
@@ -61,23 +63,32 @@ fn progress(text: &str) {
     }
 }
 
-/// What is asked of moves of more than one exchange and of vectors: docs/BENCHMARKS.md.
-fn target(n: usize) -> f64 {
-    if n >= 16 { 1.0 } else { 1.5 }
+/// What is asked of moves of more than one exchange and of vectors at the stride n, and nothing at
+/// another: docs/BENCHMARKS.md.
+fn target(form: &Form) -> Option<f64> {
+    (form.ld == form.n).then(|| if form.n >= 16 { 1.0 } else { 1.5 })
 }
 
 type Moves = fn(&Form) -> Vec<(usize, usize)>;
-const KINDS_OF_MOVE: [(&str, Moves); 3] = [
-    ("one adjacent move", Form::adjacent),
-    ("move last to first", Form::last_to_first),
-    ("reversal by moves", Form::reversal),
+/// A row's name, its moves, and its stride where that is not n.
+const KINDS_OF_MOVE: [(&str, Moves, Option<usize>); 5] = [
+    ("one adjacent move", Form::adjacent, None),
+    ("move last to first", Form::last_to_first, None),
+    ("reversal by moves", Form::reversal, None),
+    ("one adjacent move, stride 128", Form::adjacent, Some(STRIDE)),
+    ("move last to first, stride 128", Form::last_to_first, Some(STRIDE)),
 ];
+
+/// The form of a row.
+fn form_of(kind: Kind, n: usize, stride: Option<usize>) -> Form {
+    Form::new(kind, n, SEED).spread(stride.unwrap_or(n))
+}
 
 fn moves(plan: &Plan, sides: &Sides, report: &mut Report) -> Table {
     let heads =
         ["", "blocks", "factor", "n", "swaps", "ours, ns", "ours/Rust", "ours/LAPACK", "ours/OpenBLAS", "to reach"];
     let mut table = Table::new(plan.markdown, &heads);
-    for (what, moves) in KINDS_OF_MOVE {
+    for (what, moves, stride) in KINDS_OF_MOVE {
         for kind in Kind::ALL {
             for (with_factor, factor) in [(false, "no"), (true, "yes")] {
                 for n in SIZES {
@@ -87,13 +98,13 @@ fn moves(plan: &Plan, sides: &Sides, report: &mut Report) -> Table {
                         continue;
                     }
                     progress(&format!("{name}, n = {n}"));
-                    let form = Form::new(kind, n, SEED);
+                    let form = form_of(kind, n, stride);
                     let moves = moves(&form);
                     let swaps = check_moves(sides, &form, with_factor, &moves);
                     let times = time_moves(plan, sides, &form, with_factor, &moves);
                     let ratios: Vec<Spread> = (1..4).map(|k| times.ratio(0, k, plan.least)).collect();
-                    report.same_call(format!("{} {suffix} n = {n} {moves:?}", kind.name()), &ratios);
-                    let said = report.add(&name, n, (swaps > 1).then(|| target(n)), &ratios, &times);
+                    report.same_call(format!("{} {suffix} n = {n} {stride:?} {moves:?}", kind.name()), &ratios);
+                    let said = report.add(&name, n, target(&form).filter(|_| swaps > 1), &ratios, &times);
                     table.add(vec![
                         what.to_string(),
                         kind.name().to_string(),
@@ -115,31 +126,30 @@ fn moves(plan: &Plan, sides: &Sides, report: &mut Report) -> Table {
 
 /// Every side carries the moves out, ours as the Rust in every bit, none declines. Hands back the swaps.
 fn check_moves(sides: &Sides, form: &Form, with_factor: bool, moves: &[(usize, usize)]) -> usize {
-    let n = form.n;
-    let factor = || if with_factor { unit(n) } else { Vec::new() };
-    let (mut t, mut u, mut swaps) = (form.t.clone(), factor(), 0);
+    let (n, ld) = (form.n, form.ld);
+    let (mut t, mut u, mut swaps) = (form.t.clone(), form.factor(with_factor), 0);
     for &(from, to) in moves {
-        let (number, out) = our_reorder(n, &mut t, &mut u, from, to);
+        let (number, out) = our_reorder(n, ld, &mut t, &mut u, from, to);
         assert!(number == 0 && out[0] == to && out[2] == 0, "our move {from} to {to}: {number} {out:?}");
         swaps += out[1];
     }
     let bits = |x: &[f64]| x.iter().map(|x| x.to_bits()).collect::<Vec<u64>>();
     for (side, name) in sides.all.iter().zip(NAMES).skip(1) {
-        let (mut t2, mut u2) = (form.t.clone(), factor());
+        let (mut t2, mut u2) = (form.t.clone(), form.factor(with_factor));
         for &(from, to) in moves {
-            assert!(side.reorder(n, &mut t2, &mut u2, from, to) == 0, "{name} declines {from} to {to}");
+            assert!(side.reorder(n, ld, &mut t2, &mut u2, from, to) == 0, "{name} declines {from} to {to}");
         }
         match side {
             Side::Rust => assert!(bits(&t) == bits(&t2) && bits(&u) == bits(&u2), "the Rust differs"),
-            _ => (0..n).for_each(|i| assert!((t[i + n * i] - t2[i + n * i]).abs() < 1e-6, "{name} differs, row {i}")),
+            _ => (0..n).for_each(|i| assert!((t[i + ld * i] - t2[i + ld * i]).abs() < 1e-6, "{name} differs, row {i}")),
         }
     }
     swaps
 }
 
 fn time_moves(plan: &Plan, sides: &Sides, form: &Form, with_factor: bool, moves: &[(usize, usize)]) -> Times {
-    let (n, places) = (form.n, form.n * form.n);
-    let factor = if with_factor { unit(n) } else { Vec::new() };
+    let (n, ld, places) = (form.n, form.ld, form.t.len());
+    let factor = form.factor(with_factor);
     let fitting = BATCH_BYTES / (8 * (places + factor.len()));
     let copies = fitting.min(runs_that_fit(sides.all[0], form, &factor, moves)).clamp(1, MOST_COPIES);
     let (mut t, mut u) = (Lines::new(copies * places), Lines::new(copies * factor.len()));
@@ -155,7 +165,7 @@ fn time_moves(plan: &Plan, sides: &Sides, form: &Form, with_factor: bool, moves:
             let t = &mut t[copy * places..][..places];
             let u = &mut u[copy * factor.len()..][..factor.len()];
             for &(from, to) in moves {
-                black_box(side.reorder(n, t, u, from, to));
+                black_box(side.reorder(n, ld, t, u, from, to));
             }
         }
         let taken = start.elapsed();
@@ -188,7 +198,7 @@ fn runs_that_fit(side: Side, form: &Form, factor: &[f64], moves: &[(usize, usize
         let (mut t, mut u) = (form.t.clone(), factor.to_vec());
         let start = Instant::now();
         for &(from, to) in moves {
-            black_box(side.reorder(form.n, &mut t, &mut u, from, to));
+            black_box(side.reorder(form.n, form.ld, &mut t, &mut u, from, to));
         }
         start.elapsed().as_nanos().max(1)
     };
@@ -201,80 +211,80 @@ fn runs_of(n: usize) -> usize {
     (2048 / (n * n)).clamp(1, 64)
 }
 
+/// The rows of a call on a form that are wanted: the first cell, the row's name and its form. All
+/// kinds and sizes with the stride n, then all with the greatest.
+fn rows<'a>(plan: &'a Plan, call: &'a str) -> impl Iterator<Item = (String, String, Kind, Form)> + 'a {
+    let strides = [(call.to_string(), None), (format!("{call}, stride {STRIDE}"), Some(STRIDE))];
+    let kinds = strides.into_iter().flat_map(|row| Kind::ALL.map(|kind| (row.clone(), kind)));
+    let all = kinds.flat_map(|(row, kind)| SIZES.map(|n| (row.clone(), kind, n)));
+    all.filter_map(move |((what, stride), kind, n)| {
+        let name = format!("{what} {}", kind.name());
+        plan.wants(&name, Some(n)).then(|| {
+            progress(&format!("{name}, n = {n}"));
+            (what, name, kind, form_of(kind, n, stride))
+        })
+    })
+}
+
 fn vectors(plan: &Plan, sides: &Sides, report: &mut Report) -> Table {
     let heads = ["", "blocks", "n", "ours, ns", "ours/Rust", "ours/LAPACK", "ours/OpenBLAS", "to reach"];
     let mut table = Table::new(plan.markdown, &heads);
-    for kind in Kind::ALL {
-        for n in SIZES {
-            let name = format!("vectors {}", kind.name());
-            if !plan.wants(&name, Some(n)) {
-                continue;
-            }
-            progress(&format!("{name}, n = {n}"));
-            let form = Form::new(kind, n, SEED);
-            let mut v: Vec<Vec<f64>> = vec![vec![0.0; n * n]; 4];
-            for (side, v) in sides.all.iter().zip(&mut v) {
-                assert!(side.vectors(n, &form.t, v) == 0);
-            }
-            assert!(v[0].iter().zip(&v[1]).all(|(x, y)| x.to_bits() == y.to_bits()), "the Rust differs");
-            let runs = runs_of(n);
-            let times = Times::take(4, runs, plan.budget, |k| {
-                let (side, v) = (sides.all[k], &mut v[k]);
-                let start = Instant::now();
-                for _ in 0..runs {
-                    black_box(side.vectors(n, black_box(&form.t), v));
-                }
-                start.elapsed()
-            });
-            let ratios: Vec<Spread> = (1..4).map(|k| times.ratio(0, k, plan.least)).collect();
-            let said = report.add(&name, n, Some(target(n)), &ratios, &times);
-            table.add(vec![
-                "vectors".to_string(),
-                kind.name().to_string(),
-                n.to_string(),
-                nanoseconds(&times, 0),
-                shown(ratios[0]),
-                shown(ratios[1]),
-                shown(ratios[2]),
-                said,
-            ]);
+    for (what, name, kind, form) in rows(plan, "vectors") {
+        let (n, ld) = (form.n, form.ld);
+        let mut v: Vec<Vec<f64>> = vec![vec![0.0; form.t.len()]; 4];
+        for (side, v) in sides.all.iter().zip(&mut v) {
+            assert!(side.vectors(n, ld, &form.t, v) == 0);
         }
+        assert!(v[0].iter().zip(&v[1]).all(|(x, y)| x.to_bits() == y.to_bits()), "the Rust differs");
+        let runs = runs_of(n);
+        let times = Times::take(4, runs, plan.budget, |k| {
+            let (side, v) = (sides.all[k], &mut v[k]);
+            let start = Instant::now();
+            for _ in 0..runs {
+                black_box(side.vectors(n, ld, black_box(&form.t), v));
+            }
+            start.elapsed()
+        });
+        let ratios: Vec<Spread> = (1..4).map(|k| times.ratio(0, k, plan.least)).collect();
+        let said = report.add(&name, n, target(&form), &ratios, &times);
+        table.add(vec![
+            what,
+            kind.name().to_string(),
+            n.to_string(),
+            nanoseconds(&times, 0),
+            shown(ratios[0]),
+            shown(ratios[1]),
+            shown(ratios[2]),
+            said,
+        ]);
     }
     table
 }
 
 fn values(plan: &Plan, report: &mut Report) -> Table {
     let mut table = Table::new(plan.markdown, &["", "blocks", "n", "ours, ns", "ours/Rust"]);
-    for kind in Kind::ALL {
-        for n in SIZES {
-            let name = format!("values {}", kind.name());
-            if !plan.wants(&name, Some(n)) {
-                continue;
-            }
-            progress(&format!("{name}, n = {n}"));
-            let form = Form::new(kind, n, SEED);
-            let (mut re, mut im) = (vec![0.0; n], vec![0.0; n]);
-            let mut all = vec![Complex::new(0.0, 0.0); n];
-            assert!(our_values(n, &form.t, &mut re, &mut im) == 0);
-            rust_values(n, &form.t, &mut all);
-            assert!((0..n).all(|i| re[i].to_bits() == all[i].re.to_bits() && im[i].to_bits() == all[i].im.to_bits()));
-            let runs = 64;
-            let times = Times::take(2, runs, plan.budget, |k| {
-                let start = Instant::now();
-                for _ in 0..runs {
-                    match k {
-                        0 => drop(black_box(our_values(n, black_box(&form.t), &mut re, &mut im))),
-                        _ => rust_values(n, black_box(&form.t), black_box(&mut all)),
-                    }
+    for (what, _, kind, form) in rows(plan, "values") {
+        let (n, ld) = (form.n, form.ld);
+        let (mut re, mut im) = (vec![0.0; n], vec![0.0; n]);
+        let mut all = vec![Complex::new(0.0, 0.0); n];
+        assert!(our_values(n, ld, &form.t, &mut re, &mut im) == 0);
+        rust_values(n, ld, &form.t, &mut all);
+        assert!((0..n).all(|i| re[i].to_bits() == all[i].re.to_bits() && im[i].to_bits() == all[i].im.to_bits()));
+        let runs = 64;
+        let times = Times::take(2, runs, plan.budget, |k| {
+            let start = Instant::now();
+            for _ in 0..runs {
+                match k {
+                    0 => drop(black_box(our_values(n, ld, black_box(&form.t), &mut re, &mut im))),
+                    _ => rust_values(n, ld, black_box(&form.t), black_box(&mut all)),
                 }
-                start.elapsed()
-            });
-            let ratio = times.ratio(0, 1, plan.least);
-            report.note(&[ratio], &times);
-            let name = "values".to_string();
-            let cells = [kind.name().to_string(), n.to_string(), nanoseconds(&times, 0), shown(ratio)];
-            table.add([name].into_iter().chain(cells).collect());
-        }
+            }
+            start.elapsed()
+        });
+        let ratio = times.ratio(0, 1, plan.least);
+        report.note(&[ratio], &times);
+        let cells = [kind.name().to_string(), n.to_string(), nanoseconds(&times, 0), shown(ratio)];
+        table.add([what].into_iter().chain(cells).collect());
     }
     table
 }

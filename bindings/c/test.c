@@ -1,5 +1,6 @@
 /* The test of volmeixi.h: calls every function, checks document 01's worked values, every number
- * that can come back, and that a call which is turned away leaves all its buffers and gives zeros.
+ * that can come back, that a call which is turned away leaves all its buffers and gives zeros, and
+ * that at every stride a call gives what it gives without gaps and leaves the rows beyond.
  * Prints each check that failed and the count of those that passed; ends with 1 if any failed. */
 #include "volmeixi.h"
 
@@ -7,7 +8,7 @@
 #include <stdio.h>
 #include <string.h>
 
-#define MOST (65 * 65)
+#define MOST (129 * 65)
 #define PLACES(buffer) (sizeof(buffer) / sizeof(*(buffer)))
 #define CHECK(holds) check((holds), #holds, __LINE__)
 #define SAME(x, y) check(same_bits((x), (y)), #x " is " #y, __LINE__)
@@ -171,15 +172,15 @@ static void example(void)
 {
     double t[9] = {1, 0, 0, 0, 2, 0, 0, 0, 3};
     size_t landed, swaps, declined;
-    size_t answer = vx_reorder_schur(3, t, 9, NULL, 0, 0, 2, &landed, &swaps, &declined);
+    size_t answer = vx_reorder_schur(3, 3, t, 9, NULL, 0, 0, 2, &landed, &swaps, &declined);
     CHECK(answer == VX_DONE);
     CHECK(t[0] == 2 && t[4] == 3 && t[8] == 1);
     CHECK(landed == 2 && swaps == 2 && declined == 0);
 }
 
-static size_t move(size_t n, size_t t_len, size_t u_len, size_t from, size_t to)
+static size_t move(size_t n, size_t ld, size_t t_len, size_t u_len, size_t from, size_t to)
 {
-    return vx_reorder_schur(n, t, t_len, u_len ? u : NULL, u_len, from, to, &landed, &swaps,
+    return vx_reorder_schur(n, ld, t, t_len, u_len ? u : NULL, u_len, from, to, &landed, &swaps,
                             &declined);
 }
 
@@ -189,64 +190,64 @@ static void moves(void)
     const double moved_t[4] = {2, 0, 0, 1}, moved_u[4] = {0, 1, -1, 0};
 
     lend(one_two_three, 9);
-    CHECK(move(3, 9, 0, 0, 2) == VX_DONE);
+    CHECK(move(3, 3, 9, 0, 0, 2) == VX_DONE);
     CHECK(t[0] == 2 && t[4] == 3 && t[8] == 1);
     CHECK(landed == 2 && swaps == 2 && declined == 0);
     lend(one_two_three, 9);
-    CHECK(move(3, 9, 9, 2, 0) == VX_DONE);
+    CHECK(move(3, 3, 9, 9, 2, 0) == VX_DONE);
     CHECK(t[0] == 3 && t[4] == 1 && t[8] == 2);
     CHECK(landed == 0 && swaps == 2 && declined == 0);
 
     lend(one_two, 4);
     memcpy(u, unit, sizeof unit);
-    CHECK(move(2, 4, 4, 0, 1) == VX_DONE);
+    CHECK(move(2, 2, 4, 4, 0, 1) == VX_DONE);
     for (size_t k = 0; k < 4; k++) {
         SAME(t[k], moved_t[k]);
         SAME(u[k], moved_u[k]);
     }
 
     lend(turn, 4);
-    CHECK(move(2, 4, 0, 1, 0) == VX_DONE);
+    CHECK(move(2, 2, 4, 0, 1, 0) == VX_DONE);
     CHECK(landed == 0 && swaps == 0 && declined == 0);
     CHECK(memcmp(t, old_t, sizeof t) == 0);
 
     lend(alike, 16);
-    CHECK(move(4, 16, 0, 0, 2) == VX_DONE);
+    CHECK(move(4, 4, 16, 0, 0, 2) == VX_DONE);
     CHECK(landed == 2 && swaps == 1 && declined == 1);
     CHECK(memcmp(t, old_t, sizeof t) == 0);
 
     lend(zeros, 0);
-    CHECK(move(64, 64 * 64, 0, 63, 0) == VX_DONE);
+    CHECK(move(64, 64, 64 * 64, 0, 63, 0) == VX_DONE);
     CHECK(landed == 0 && swaps == 63);
 }
 
 static void exchanges(void)
 {
     lend(one_two_three, 9);
-    CHECK(vx_schur_swap(3, t, 9, NULL, 0, 1, 1, 1, &swaps, &declined) == VX_DONE);
+    CHECK(vx_schur_swap(3, 3, t, 9, NULL, 0, 1, 1, 1, &swaps, &declined) == VX_DONE);
     CHECK(t[0] == 1 && t[4] == 3 && t[8] == 2);
     CHECK(swaps == 1 && declined == 0);
 
     lend(one_to_four, 16); /* two pairs, each with a zero inside */
-    CHECK(vx_schur_swap(4, t, 16, NULL, 0, 0, 2, 2, &swaps, &declined) == VX_DONE);
+    CHECK(vx_schur_swap(4, 4, t, 16, NULL, 0, 0, 2, 2, &swaps, &declined) == VX_DONE);
     CHECK(t[0] == 3 && t[5] == 4 && t[10] == 1 && t[15] == 2);
     CHECK(swaps == 4 && declined == 0);
 }
 
 /* The number that a call on the lent buffers gives: it must leave them all, and count nothing. */
-static size_t refused_move(size_t n, size_t t_len, size_t u_len, size_t from, size_t to)
+static size_t refused_move(size_t n, size_t ld, size_t t_len, size_t u_len, size_t from, size_t to)
 {
     landed = swaps = declined = 9;
-    size_t number = move(n, t_len, u_len, from, to);
+    size_t number = move(n, ld, t_len, u_len, from, to);
     CHECK(untouched() && landed == 0 && swaps == 0 && declined == 0);
     return number;
 }
 
-static size_t refused_exchange(size_t n, size_t t_len, size_t u_len, size_t j0, size_t n1,
-                               size_t n2)
+static size_t refused_exchange(size_t n, size_t ld, size_t t_len, size_t u_len, size_t j0,
+                               size_t n1, size_t n2)
 {
     swaps = declined = 9;
-    size_t number = vx_schur_swap(n, t, t_len, u, u_len, j0, n1, n2, &swaps, &declined);
+    size_t number = vx_schur_swap(n, ld, t, t_len, u, u_len, j0, n1, n2, &swaps, &declined);
     CHECK(untouched() && swaps == 0 && declined == 0);
     return number;
 }
@@ -260,43 +261,43 @@ static void refusals(void)
     touching[1] = touching[5] = 1;
 
     lend(one_two_three, 9);
-    CHECK(refused_move(0, 0, 0, 0, 0) == VX_ROWS);
-    CHECK(refused_move(65, 65 * 65, 0, 0, 1) == VX_ROWS);
-    CHECK(refused_move(3, 8, 0, 0, 1) == VX_FORM_LENGTH);
-    CHECK(refused_move(3, 9, 8, 0, 1) == VX_BUFFER_LENGTH);
-    CHECK(refused_move(3, 9, 9, 3, 0) == VX_POSITION);
-    CHECK(refused_move(3, 9, 9, 0, 3) == VX_POSITION);
-    CHECK(refused_exchange(0, 0, 0, 0, 1, 1) == VX_ROWS);
-    CHECK(refused_exchange(65, 65 * 65, 0, 0, 1, 1) == VX_ROWS);
-    CHECK(refused_exchange(3, 10, 9, 0, 1, 1) == VX_FORM_LENGTH);
-    CHECK(refused_exchange(3, 9, 1, 0, 1, 1) == VX_BUFFER_LENGTH);
-    CHECK(refused_exchange(3, 9, 9, 3, 1, 1) == VX_POSITION);
-    CHECK(refused_exchange(3, 9, 9, 0, 3, 1) == VX_BLOCK_SIZE);
-    CHECK(refused_exchange(3, 9, 9, 0, 1, 0) == VX_BLOCK_SIZE);
-    CHECK(refused_exchange(3, 9, 9, 2, 1, 1) == VX_PAST_END);
+    CHECK(refused_move(0, 0, 0, 0, 0, 0) == VX_ROWS);
+    CHECK(refused_move(65, 65, 65 * 65, 0, 0, 1) == VX_ROWS);
+    CHECK(refused_move(3, 3, 8, 0, 0, 1) == VX_FORM_LENGTH);
+    CHECK(refused_move(3, 3, 9, 8, 0, 1) == VX_BUFFER_LENGTH);
+    CHECK(refused_move(3, 3, 9, 9, 3, 0) == VX_POSITION);
+    CHECK(refused_move(3, 3, 9, 9, 0, 3) == VX_POSITION);
+    CHECK(refused_exchange(0, 0, 0, 0, 0, 1, 1) == VX_ROWS);
+    CHECK(refused_exchange(65, 65, 65 * 65, 0, 0, 1, 1) == VX_ROWS);
+    CHECK(refused_exchange(3, 3, 10, 9, 0, 1, 1) == VX_FORM_LENGTH);
+    CHECK(refused_exchange(3, 3, 9, 1, 0, 1, 1) == VX_BUFFER_LENGTH);
+    CHECK(refused_exchange(3, 3, 9, 9, 3, 1, 1) == VX_POSITION);
+    CHECK(refused_exchange(3, 3, 9, 9, 0, 3, 1) == VX_BLOCK_SIZE);
+    CHECK(refused_exchange(3, 3, 9, 9, 0, 1, 0) == VX_BLOCK_SIZE);
+    CHECK(refused_exchange(3, 3, 9, 9, 2, 1, 1) == VX_PAST_END);
     lend(turn, 4);
-    CHECK(refused_exchange(2, 4, 4, 0, 1, 1) == VX_ACROSS);
+    CHECK(refused_exchange(2, 2, 4, 4, 0, 1, 1) == VX_ACROSS);
     lend(deep, 9);
-    CHECK(refused_move(3, 9, 9, 0, 1) == VX_DEEP_ENTRY);
-    CHECK(refused_exchange(3, 9, 9, 0, 1, 1) == VX_DEEP_ENTRY);
+    CHECK(refused_move(3, 3, 9, 9, 0, 1) == VX_DEEP_ENTRY);
+    CHECK(refused_exchange(3, 3, 9, 9, 0, 1, 1) == VX_DEEP_ENTRY);
     lend(touching, 9);
-    CHECK(refused_move(3, 9, 9, 0, 1) == VX_TOUCHING);
-    CHECK(refused_exchange(3, 9, 9, 0, 1, 1) == VX_TOUCHING);
+    CHECK(refused_move(3, 3, 9, 9, 0, 1) == VX_TOUCHING);
+    CHECK(refused_exchange(3, 3, 9, 9, 0, 1, 1) == VX_TOUCHING);
 
     /* Values and vectors, whose results would go to u. */
-    CHECK(vx_block_values(0, t, 0, u, 0, u + 64, 0) == VX_ROWS);
-    CHECK(vx_block_values(65, t, 65 * 65, u, 65, u + 65, 65) == VX_ROWS);
-    CHECK(vx_block_values(3, t, 8, u, 3, u + 3, 3) == VX_FORM_LENGTH);
-    CHECK(vx_block_values(3, t, 9, u, 2, u + 3, 3) == VX_BUFFER_LENGTH);
-    CHECK(vx_block_values(3, t, 9, u, 3, u + 3, 4) == VX_BUFFER_LENGTH);
-    CHECK(vx_block_values(3, t, 9, u, 3, u + 3, 3) == VX_TOUCHING);
-    CHECK(vx_evd_from_real_schur(0, t, 0, u, 0) == VX_ROWS);
-    CHECK(vx_evd_from_real_schur(65, t, 65 * 65, u, 65 * 65) == VX_ROWS);
-    CHECK(vx_evd_from_real_schur(3, t, 8, u, 9) == VX_FORM_LENGTH);
-    CHECK(vx_evd_from_real_schur(3, t, 9, u, 8) == VX_BUFFER_LENGTH);
-    CHECK(vx_evd_from_real_schur(3, t, 9, u, 9) == VX_TOUCHING);
-    CHECK(vx_block_values(3, deep, 9, u, 3, u + 3, 3) == VX_DEEP_ENTRY);
-    CHECK(vx_evd_from_real_schur(3, deep, 9, u, 9) == VX_DEEP_ENTRY);
+    CHECK(vx_block_values(0, 0, t, 0, u, 0, u + 64, 0) == VX_ROWS);
+    CHECK(vx_block_values(65, 65, t, 65 * 65, u, 65, u + 65, 65) == VX_ROWS);
+    CHECK(vx_block_values(3, 3, t, 8, u, 3, u + 3, 3) == VX_FORM_LENGTH);
+    CHECK(vx_block_values(3, 3, t, 9, u, 2, u + 3, 3) == VX_BUFFER_LENGTH);
+    CHECK(vx_block_values(3, 3, t, 9, u, 3, u + 3, 4) == VX_BUFFER_LENGTH);
+    CHECK(vx_block_values(3, 3, t, 9, u, 3, u + 3, 3) == VX_TOUCHING);
+    CHECK(vx_evd_from_real_schur(0, 0, t, 0, u, 0) == VX_ROWS);
+    CHECK(vx_evd_from_real_schur(65, 65, t, 65 * 65, u, 65 * 65) == VX_ROWS);
+    CHECK(vx_evd_from_real_schur(3, 3, t, 8, u, 9) == VX_FORM_LENGTH);
+    CHECK(vx_evd_from_real_schur(3, 3, t, 9, u, 8) == VX_BUFFER_LENGTH);
+    CHECK(vx_evd_from_real_schur(3, 3, t, 9, u, 9) == VX_TOUCHING);
+    CHECK(vx_block_values(3, 3, deep, 9, u, 3, u + 3, 3) == VX_DEEP_ENTRY);
+    CHECK(vx_evd_from_real_schur(3, 3, deep, 9, u, 9) == VX_DEEP_ENTRY);
     CHECK(untouched());
 }
 
@@ -304,32 +305,175 @@ static void values_and_vectors(void)
 {
     const double upper[4] = {1, 0, 1, 2};
     double re[2], im[2], v[4] = {9, 9, 9, 9};
-    CHECK(vx_block_values(2, turn, 4, re, PLACES(re), im, PLACES(im)) == VX_DONE);
+    CHECK(vx_block_values(2, 2, turn, 4, re, PLACES(re), im, PLACES(im)) == VX_DONE);
     CHECK(re[0] == 0 && re[1] == 0 && im[0] == 1 && im[1] == -1);
-    CHECK(vx_block_values(2, upper, 4, re, PLACES(re), im, PLACES(im)) == VX_DONE);
+    CHECK(vx_block_values(2, 2, upper, 4, re, PLACES(re), im, PLACES(im)) == VX_DONE);
     CHECK(re[0] == 1 && re[1] == 2);
     SAME(im[0], 0.0);
 
-    CHECK(vx_evd_from_real_schur(2, upper, 4, v, PLACES(v)) == VX_DONE);
+    CHECK(vx_evd_from_real_schur(2, 2, upper, 4, v, PLACES(v)) == VX_DONE);
     CHECK(v[0] == 1 && v[2] == 1 && v[3] == 1);
-    CHECK(vx_evd_from_real_schur(2, zeros, 4, v, PLACES(v)) == VX_DONE);
+    CHECK(vx_evd_from_real_schur(2, 2, zeros, 4, v, PLACES(v)) == VX_DONE);
     SAME(v[2], -0.0);
     SAME(v[1], 9.0);
 
     fill(u, 9.0);
-    CHECK(vx_evd_from_real_schur(64, zeros, 64 * 64, u, 64 * 64) == VX_DONE);
-    CHECK(vx_block_values(64, zeros, 64 * 64, u, 64, u + 64, 64) == VX_DONE);
+    CHECK(vx_evd_from_real_schur(64, 64, zeros, 64 * 64, u, 64 * 64) == VX_DONE);
+    CHECK(vx_block_values(64, 64, zeros, 64 * 64, u, 64, u + 64, 64) == VX_DONE);
+}
+
+/* Rows with a pair among them, as in examples/slow-mode.txt. */
+static const double six[36] = {-3,  0,     0,     0,     0,    0,      0.5,   -0.5, -1.5,
+                               0,   0,     0,     -0.25, 2,    -0.5,   0,     0,    0,
+                               1,   0.375, 0.625, -1.25, 0,    0,      0.125, -0.5, 0.875,
+                               0.5, -2,    0,     0.75,  0.25, -0.125, -0.75, 0.25, -0.0625};
+
+/* Lends the form and the unit factor of n rows at a stride. In the rows from n on, and after the
+ * last column, stand numbers that no form could have there. */
+static void lend_at(size_t n, size_t ld, const double *form)
+{
+    const double others[5] = {NAN, INFINITY, 0x1p-1074, -7, -0.0};
+    for (size_t k = 0; k < MOST; k++) {
+        t[k] = others[k % 5];
+        u[k] = others[(k + 2) % 5];
+    }
+    for (size_t j = 0; j < n; j++)
+        for (size_t i = 0; i < n; i++) {
+            t[i + ld * j] = form[i + n * j];
+            u[i + ld * j] = i == j;
+        }
+    memcpy(old_t, t, sizeof t);
+    memcpy(old_u, u, sizeof u);
+    landed = swaps = declined = 9;
+}
+
+/* Whether the n rows of a buffer are those of another without gaps, and all else is as before. */
+static int holds(const double *buffer, const double *old, size_t n, size_t ld, const double *rows)
+{
+    for (size_t k = 0; k < MOST; k++) {
+        size_t i = k % ld, j = k / ld;
+        const double *x = i < n && j < n ? &rows[i + n * j] : &old[k];
+        if (memcmp(&buffer[k], x, sizeof *x) != 0)
+            return 0;
+    }
+    return 1;
+}
+
+/* Each call at a stride, beside the same without gaps. */
+static void at_a_stride(size_t ld)
+{
+    const size_t n = 6, len = 6 * ld;
+    double form[36], factor[36], values[12], re[6], im[6];
+
+    lend_at(n, n, six);
+    CHECK(move(n, n, 36, 36, 5, 0) == VX_DONE);
+    memcpy(form, t, sizeof form);
+    memcpy(factor, u, sizeof factor);
+    lend_at(n, ld, six);
+    CHECK(move(n, ld, len, len, 5, 0) == VX_DONE);
+    CHECK(landed == 0 && swaps == 4 && declined == 0);
+    CHECK(holds(t, old_t, n, ld, form) && holds(u, old_u, n, ld, factor));
+    lend_at(n, ld, six);
+    CHECK(move(n, ld, len, 0, 5, 0) == VX_DONE);
+    CHECK(holds(t, old_t, n, ld, form) && memcmp(u, old_u, sizeof u) == 0);
+
+    lend_at(n, n, six);
+    CHECK(vx_schur_swap(n, n, t, 36, u, 36, 1, 2, 1, &swaps, &declined) == VX_DONE);
+    memcpy(form, t, sizeof form);
+    memcpy(factor, u, sizeof factor);
+    lend_at(n, ld, six);
+    CHECK(vx_schur_swap(n, ld, t, len, u, len, 1, 2, 1, &swaps, &declined) == VX_DONE);
+    CHECK(swaps == 1 && declined == 0);
+    CHECK(holds(t, old_t, n, ld, form) && holds(u, old_u, n, ld, factor));
+
+    CHECK(vx_block_values(n, n, six, 36, values, 6, values + 6, 6) == VX_DONE);
+    lend_at(n, ld, six);
+    CHECK(vx_block_values(n, ld, t, len, re, 6, im, 6) == VX_DONE);
+    CHECK(memcmp(re, values, sizeof re) == 0 && memcmp(im, values + 6, sizeof im) == 0);
+    CHECK(untouched());
+
+    lend_at(n, n, six);
+    CHECK(vx_evd_from_real_schur(n, n, t, 36, u, 36) == VX_DONE);
+    memcpy(factor, u, sizeof factor);
+    lend_at(n, ld, six);
+    CHECK(vx_evd_from_real_schur(n, ld, t, len, u, len) == VX_DONE);
+    CHECK(memcmp(t, old_t, sizeof t) == 0 && holds(u, old_u, n, ld, factor));
+
+    /* What the rows of the form are turned away for is found at the stride. */
+    lend_at(n, ld, six);
+    CHECK(refused_move(n, ld, len, len, 6, 0) == VX_POSITION);
+    CHECK(refused_exchange(n, ld, len, len, 2, 1, 1) == VX_ACROSS);
+    t[3 + ld * 2] = old_t[3 + ld * 2] = 1;
+    CHECK(refused_move(n, ld, len, len, 5, 0) == VX_TOUCHING);
+    t[5 + ld * 3] = old_t[5 + ld * 3] = NAN;
+    CHECK(refused_move(n, ld, len, len, 5, 0) == VX_DEEP_ENTRY);
+    CHECK(vx_block_values(n, ld, t, len, u, 6, u + 6, 6) == VX_DEEP_ENTRY);
+    CHECK(vx_evd_from_real_schur(n, ld, t, len, u, len) == VX_DEEP_ENTRY);
+    CHECK(untouched());
+}
+
+/* The number that all four calls give, of buffers that they must leave. The three last lengths are
+ * those of the factor or vectors, and of re and im. */
+static size_t refused_by_all(size_t n, size_t ld, size_t t_len, size_t len, size_t re_len,
+                             size_t im_len)
+{
+    size_t number = refused_move(n, ld, t_len, len, 0, 1);
+    CHECK(refused_exchange(n, ld, t_len, len, 0, 1, 1) == number);
+    CHECK(vx_block_values(n, ld, t, t_len, u, re_len, u + 64, im_len) == number);
+    CHECK(vx_evd_from_real_schur(n, ld, t, t_len, u, len) == number);
+    CHECK(untouched());
+    return number;
+}
+
+static void strides(void)
+{
+    const size_t all[5] = {6, 7, 12, 127, 128};
+    for (size_t k = 0; k < PLACES(all); k++)
+        at_a_stride(all[k]);
+
+    /* 2, then 17, then 3, then 4. */
+    lend_at(3, 4, one_two_three);
+    CHECK(refused_by_all(0, 129, 1, 1, 1, 1) == VX_ROWS);
+    CHECK(refused_by_all(65, 64, 1, 1, 1, 1) == VX_ROWS);
+    CHECK(refused_by_all(65, 129, 65 * 129, 65 * 129, 65, 65) == VX_ROWS);
+    CHECK(refused_by_all(3, 0, 0, 0, 3, 3) == VX_STRIDE);
+    CHECK(refused_by_all(3, 2, 6, 6, 3, 3) == VX_STRIDE);
+    CHECK(refused_by_all(3, 2, 9, 9, 3, 3) == VX_STRIDE);
+    CHECK(refused_by_all(3, 129, 1, 1, 1, 1) == VX_STRIDE);
+    CHECK(refused_by_all(3, (size_t)-1, 9, 9, 3, 3) == VX_STRIDE);
+    CHECK(refused_by_all(3, 4, 9, 9, 1, 1) == VX_FORM_LENGTH);
+    CHECK(refused_by_all(3, 4, 11, 12, 3, 3) == VX_FORM_LENGTH);
+    CHECK(refused_by_all(3, 3, 12, 9, 3, 3) == VX_FORM_LENGTH);
+    CHECK(refused_by_all(3, 4, 12, 9, 4, 3) == VX_BUFFER_LENGTH);
+    CHECK(refused_by_all(3, 4, 12, 13, 3, 4) == VX_BUFFER_LENGTH);
+
+    /* The largest stride, and the one beyond it, with as many rows as there can be. */
+    lend_at(64, 128, zeros);
+    CHECK(refused_by_all(64, 63, 64 * 63, 64 * 63, 64, 64) == VX_STRIDE);
+    CHECK(refused_by_all(64, 129, 64 * 129, 64 * 129, 64, 64) == VX_STRIDE);
+    CHECK(vx_block_values(64, 128, t, 64 * 128, u, 64, u + 64, 64) == VX_DONE);
+    CHECK(vx_evd_from_real_schur(64, 128, t, 64 * 128, u, 64 * 128) == VX_DONE);
+    CHECK(vx_schur_swap(64, 128, t, 64 * 128, u, 64 * 128, 62, 1, 1, &swaps, &declined) == VX_DONE);
+    CHECK(move(64, 128, 64 * 128, 64 * 128, 63, 0) == VX_DONE);
+    CHECK(landed == 0 && swaps == 63);
 }
 
 /* Each number has a sentence of its own, and those that no call gives have one too. */
 static void messages(void)
 {
-    for (size_t k = 0; k <= VX_TAIL_LENGTH; k++)
+    const size_t known[13] = {
+        VX_DONE,       1,           VX_ROWS,     VX_STRIDE,     VX_FORM_LENGTH, VX_BUFFER_LENGTH,
+        VX_DEEP_ENTRY, VX_TOUCHING, VX_POSITION, VX_BLOCK_SIZE, VX_PAST_END,    VX_ACROSS,
+        VX_TAIL_LENGTH};
+    for (size_t k = 0; k < PLACES(known); k++) {
         for (size_t j = 0; j < k; j++)
-            CHECK(strcmp(vx_message(j), vx_message(k)) != 0);
+            CHECK(strcmp(vx_message(known[j]), vx_message(known[k])) != 0);
+        CHECK(strcmp(vx_message(known[k]), vx_message((size_t)-1)) != 0);
+    }
     CHECK(strcmp(vx_message(VX_POSITION), "a position or column number is not below n") == 0);
+    CHECK(strcmp(vx_message(VX_STRIDE), "the stride is below n or above 128") == 0);
+    CHECK(VX_STRIDE == 17);
     CHECK(strcmp(vx_message(12), vx_message((size_t)-1)) == 0);
-    CHECK(strcmp(vx_message(12), vx_message(VX_TAIL_LENGTH)) != 0);
 }
 
 int main(void)
@@ -343,6 +487,7 @@ int main(void)
     exchanges();
     refusals();
     values_and_vectors();
+    strides();
     messages();
     printf("%d checks passed, %d failed\n", passed, failed);
     return failed != 0;

@@ -1,9 +1,16 @@
 /* The calls of libvolmeixi.a for C and C++: reordering of real Schur forms, and its parts.
  *
  * A form is n rows by n columns of double, column after column: row i, column j stands at
- * i + n * j; rows and columns count from 0; n is 1 to 64. A 2-block stands where the entry just
+ * i + ld * j; rows and columns count from 0; n is 1 to 64. A 2-block stands where the entry just
  * below the diagonal, at (j + 1, j), is not zero (a NaN is not zero, minus zero is); all other rows
- * are 1-blocks. A factor has the same layout.
+ * are 1-blocks. A factor and vectors have the same layout.
+ *
+ * ld is the stride, as in LAPACK: how far the next column is, n to 128. It is n where the columns
+ * follow each other; for a form in the corner of a larger array it is that array's number of rows.
+ * A call has one stride, and each form, factor and vectors ld * n places. The rows from n on are
+ * the lender's: nothing depends on what stands there, and it stays. The last column has ld places
+ * too, where LAPACK asks for n: a corner that begins below row 0 and ends in the last column of its
+ * array has fewer, and must be copied.
  *
  * A buffer is a pointer and the number of its places; with 0 places it is not looked at and the
  * pointer may be NULL. A single result is a pointer to one number, and a matrix of two rows a
@@ -14,7 +21,8 @@
  * results. Only buffers and matrices that are const may share bytes, with each other: vx_lasy2 may
  * be given the same matrix twice. Numbers are given by value, so vx_apply(c, s, x, y, &x, &y) is
  * fine; vx_block_values with re and im inside t, or a factor that is the form, is not, and nothing
- * holds of the results then.
+ * holds of the results then. Nor are two corners of one array that share columns: the rows beside a
+ * corner are places of its buffer.
  *
  * A call that gives a size_t gives 0 when it was carried out, or the number of the first line
  * below that applies; vx_message has its sentence. Turned away, it has changed no buffer, and its
@@ -33,7 +41,8 @@ extern "C" {
 enum {
     VX_DONE = 0,          /* carried out */
     VX_ROWS = 2,          /* n is 0 or above 64 */
-    VX_FORM_LENGTH = 3,   /* the form's length is not n * n */
+    VX_STRIDE = 17,       /* ld is below n or above 128 */
+    VX_FORM_LENGTH = 3,   /* the form's length is not ld * n */
     VX_BUFFER_LENGTH = 4, /* another buffer's length is not the one that the call asks for */
     VX_DEEP_ENTRY = 5,    /* an entry more than one row below the diagonal is not zero */
     VX_TOUCHING = 6,      /* two neighbouring entries just below the diagonal are both not zero */
@@ -55,11 +64,13 @@ static inline const char *vx_message(size_t number)
         return "the text of the request is not laid out as it must be";
     case VX_ROWS:
         return "the number of rows n is 0 or above 64";
+    case VX_STRIDE:
+        return "the stride is below n or above 128";
     case VX_FORM_LENGTH:
-        return "the form's length is not n times n";
+        return "the form's length is not the stride times n";
     case VX_BUFFER_LENGTH:
-        return "the length of a further buffer is wrong: a factor needs n times n numbers or none, "
-               "vectors n times n, each part of block values n";
+        return "the length of a further buffer is wrong: a factor needs the stride times n numbers "
+               "or none, vectors the stride times n, each part of block values n";
     case VX_DEEP_ENTRY:
         return "the form has an entry more than one row below the diagonal that is not zero";
     case VX_TOUCHING:
@@ -88,34 +99,35 @@ static inline const char *vx_message(size_t number)
 
 /* Moves the block in row `from` to row `to`, by exchanges of neighbouring blocks, and applies the
  * same rotations and reflections to the columns of the factor u. A position inside a 2-block means
- * the block's first row. u_len is n * n, or 0 for no factor.
+ * the block's first row. u_len is ld * n, or 0 for no factor.
  * Results: the row landed on; the number of swaps; how many of these declined.
- * Gives 0, 2, 3, 4 (u_len), 5, 6 or 7 (from, to). */
-size_t vx_reorder_schur(size_t n, double *t, size_t t_len, double *u, size_t u_len, size_t from,
-                        size_t to, size_t *landed, size_t *swaps, size_t *declined);
+ * Gives 0, 2, 17, 3, 4 (u_len), 5, 6 or 7 (from, to). */
+size_t vx_reorder_schur(size_t n, size_t ld, double *t, size_t t_len, double *u, size_t u_len,
+                        size_t from, size_t to, size_t *landed, size_t *swaps, size_t *declined);
 
 /* Exchanges the n1 rows from row j0 on with the n2 rows below them. u as in vx_reorder_schur.
  * Results: the number of swaps, 1 to 4 (4 exactly when n1 and n2 are 2, each with a zero inside);
  * how many of these declined.
- * Gives 0, 2, 3, 4 (u_len), 5, 6, 7 (j0), 8, 9 or 10. */
-size_t vx_schur_swap(size_t n, double *t, size_t t_len, double *u, size_t u_len, size_t j0,
-                     size_t n1, size_t n2, size_t *swaps, size_t *declined);
+ * Gives 0, 2, 17, 3, 4 (u_len), 5, 6, 7 (j0), 8, 9 or 10. */
+size_t vx_schur_swap(size_t n, size_t ld, double *t, size_t t_len, double *u, size_t u_len,
+                     size_t j0, size_t n1, size_t n2, size_t *swaps, size_t *declined);
 
 /* ---- Values and vectors */
 
-/* The values of the form's blocks, to re and im, n places each. A 1-block gives its diagonal number
- * and +0; a 2-block its first diagonal number twice, with m and then -m, where m is the root of the
- * lower entry's magnitude times the root of the upper's.
- * Gives 0, 2, 3, 4 (re_len, im_len), 5 or 6. */
-size_t vx_block_values(size_t n, const double *t, size_t t_len, double *re, size_t re_len,
-                       double *im, size_t im_len);
+/* The values of the form's blocks, to re and im, n places each, side by side. A 1-block gives its
+ * diagonal number and +0; a 2-block its first diagonal number twice, with m and then -m, where m is
+ * the root of the lower entry's magnitude times the root of the upper's.
+ * Gives 0, 2, 17, 3, 4 (re_len, im_len), 5 or 6. */
+size_t vx_block_values(size_t n, size_t ld, const double *t, size_t t_len, double *re,
+                       size_t re_len, double *im, size_t im_len);
 
-/* The vectors of the form, to v, n * n places, column after column. A 1-block's column is its
+/* The vectors of the form, to v, ld * n places, column after column. A 1-block's column is its
  * vector; a 2-block's two columns are the real and the imaginary part. Column j is the n places
- * from n * j on. It is written from row 0 to the last row of its block; the rest stays as it was,
+ * from ld * j on. It is written from row 0 to the last row of its block; the rest stays as it was,
  * so fill v with zeros first if the whole column is read.
- * Gives 0, 2, 3, 4 (v_len), 5 or 6. */
-size_t vx_evd_from_real_schur(size_t n, const double *t, size_t t_len, double *v, size_t v_len);
+ * Gives 0, 2, 17, 3, 4 (v_len), 5 or 6. */
+size_t vx_evd_from_real_schur(size_t n, size_t ld, const double *t, size_t t_len, double *v,
+                              size_t v_len);
 
 /* ---- Blocks of two rows: nothing is turned away */
 

@@ -365,6 +365,9 @@ class ShowCommand(Desk):
             out, "Turned away with answer 5: an entry more than one row below the diagonal is not zero.\n"
         )
         self.bad("the entry in row 3, column 1 is 0.5", "show", str(EXAMPLES / "refused.txt"))
+        for answer, said in ((17, "the stride is below n, or above 128"), (99, "no answer of a move")):
+            out = self.good("show", self.file("s", f"answer={answer}\n"))
+            self.assertIn(f"Turned away with answer {answer}: {said}", out)
 
     def test_bad_texts(self):
         form = "3ff0000000000000"

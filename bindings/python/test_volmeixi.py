@@ -1,11 +1,17 @@
-"""The test of volmeixi.py: document 01's worked values, every refusal, and that a refused call
-leaves its buffers. Those with NumPy are skipped where it is not there, and tests.py counts that as failed."""
+"""The test of volmeixi.py: document 01's worked values, every refusal, that a refused call leaves its
+buffers, and that in the corner of a larger array a call gives what it gives without gaps and leaves
+what stands beside it. Those with NumPy are skipped where it is not there, and tests.py counts that as
+failed. The examples of the docstrings are run too."""
 
 import builtins
+import contextlib
+import ctypes
+import doctest
 import inspect
 import math
 import struct
 import unittest
+import unittest.mock
 from array import array
 
 import volmeixi as vx
@@ -17,6 +23,24 @@ except ImportError:
 
 TURN = (0.0, -1.0, 1.0, 0.0)  # the 2-block of rows (0, 1) and (-1, 0)
 
+# rows with a pair among them, as in examples/slow-mode.txt, column after column
+SIX = (
+    *(-3, 0, 0, 0, 0, 0),
+    *(0.5, -0.5, -1.5, 0, 0, 0),
+    *(-0.25, 2, -0.5, 0, 0, 0),
+    *(1, 0.375, 0.625, -1.25, 0, 0),
+    *(0.125, -0.5, 0.875, 0.5, -2, 0),
+    *(0.75, 0.25, -0.125, -0.75, 0.25, -0.0625),
+)
+
+# what no form could have beside it: NaN (a signalling one too), infinity, a subnormal, minus zero
+OTHERS = array("d", struct.pack("6Q", 0x7FF8 << 48, 0x7FF4 << 48 | 0xBEEF, 0x7FF0 << 48, 1, 1 << 63, 7))
+
+
+def load_tests(_loader, tests, _pattern):
+    tests.addTests(doctest.DocTestSuite(vx))
+    return tests
+
 
 def floats(numbers):
     return array("d", numbers)
@@ -27,7 +51,7 @@ def diagonal(*numbers):
     return floats(numbers[k // n] if k % n == k // n else 0.0 for k in range(n * n))
 
 
-class Worked(unittest.TestCase):
+class Case(unittest.TestCase):
     def same(self, x, y):
         self.assertEqual(struct.pack("d", x), struct.pack("d", y), f"{x} is not {y}")
 
@@ -40,6 +64,8 @@ class Worked(unittest.TestCase):
         self.assertEqual([bytes(buffer) for buffer in buffers], before)
         return str(caught.exception)
 
+
+class Worked(Case):
     def test_arithmetic(self):
         self.same(vx.sqrt(4), 2.0)
         self.same(vx.sqrt(2.0**-1074), 2.0**-537)
@@ -202,7 +228,8 @@ class Worked(unittest.TestCase):
 
     def test_messages(self):
         self.assertEqual(str(vx.Refusal(7)), "a position or column number is not below n")
-        self.assertEqual(len({str(vx.Refusal(number)) for number in range(2, 12)}), 10)
+        self.assertEqual(str(vx.Refusal(17)), "the stride is below n or above 128")
+        self.assertEqual(len({str(vx.Refusal(number)) for number in (*range(2, 12), 17)}), 11)
         self.assertIn("12", str(vx.Refusal(12)))
 
     def test_names(self):
@@ -277,6 +304,417 @@ class Worked(unittest.TestCase):
         with self.assertRaises(TypeError):
             vx.make_householder_in_place(1, numpy.ones((1, 3), order="F"))
         self.assertEqual(move(right, numpy.zeros((0, 0))).swaps, 1)
+
+
+def spread(numbers, n, stride):
+    """n rows, column after column, at a stride, with others in the rows beyond."""
+    rows = range(stride)
+    return floats(numbers[i + n * j] if i < n else OTHERS[(i + j) % 6] for j in range(n) for i in rows)
+
+
+class Strides(Case):
+    """One dimension, whose stride is given."""
+
+    def test_moves_and_exchanges(self):
+        unit = diagonal(*[1] * 6)
+        for stride in (6, 7, 12, 127, 128):
+            for call in (
+                lambda t, u, **at: vx.reorder_schur(t, u, 5, 0, **at),
+                lambda t, u, **at: vx.schur_swap(t, u, 1, 2, 1, **at),
+            ):
+                t, u = floats(SIX), unit[:]
+                answer = call(t, u)
+                wide_t, wide_u, alone = (spread(numbers, 6, stride) for numbers in (SIX, unit, SIX))
+                self.assertEqual(call(wide_t, wide_u, stride=stride), answer)
+                self.assertEqual(bytes(wide_t), bytes(spread(t, 6, stride)))
+                self.assertEqual(bytes(wide_u), bytes(spread(u, 6, stride)))
+                self.assertEqual(call(alone, None, stride=stride), answer)
+                self.assertEqual(bytes(alone), bytes(wide_t))
+
+    def test_values_and_vectors(self):
+        values, v = vx.block_values(SIX), vx.evd_from_real_schur(SIX, floats([9] * 36))
+        for stride in (6, 7, 12, 127, 128):
+            t = spread(SIX, 6, stride)
+            self.assertEqual(vx.block_values(t, stride=stride), values)
+            self.assertEqual(vx.block_values(t.tolist(), stride=stride), values)
+            wide = spread([9] * 36, 6, stride)
+            self.assertIs(vx.evd_from_real_schur(t, wide, stride=stride), wide)
+            self.assertEqual(bytes(wide), bytes(spread(v, 6, stride)))
+            self.assertEqual(vx.evd_from_real_schur(t, stride=stride), vx.evd_from_real_schur(SIX))
+            for col in range(6):
+                self.assertEqual(vx.column(wide, col, stride=stride), vx.column(v, col))
+            vx.column(wide, 5, stride=stride)[0] = 4
+            self.assertEqual(wide[5 * stride], 4)
+            self.assertEqual(bytes(t), bytes(spread(SIX, 6, stride)))
+
+    def by_all(self, number, stride, form, further):
+        """All calls refuse a form, and a factor or vectors, of so many numbers."""
+        t, u = floats([0] * form), floats([9] * further)
+        self.refused(number, lambda t, u: vx.reorder_schur(t, u, 0, 1, stride=stride), t, u)
+        self.refused(number, lambda t, u: vx.schur_swap(t, u, 0, 1, 1, stride=stride), t, u)
+        self.refused(number, lambda t, v: vx.evd_from_real_schur(t, v, stride=stride), t, u)
+        if number != 4:
+            self.refused(number, lambda t: vx.block_values(t, stride=stride), t)
+
+    def test_refused(self):
+        """2, then 17, then 3, then 4."""
+        self.by_all(2, 4, 0, 1)
+        self.by_all(2, 129, 65 * 129, 1)
+        self.by_all(2, 64, 65 * 64, 1)
+        for stride in (0, -1, -(2**64)):
+            self.by_all(17, stride, 9, 9)
+        self.by_all(17, 2, 6, 6)
+        self.by_all(17, 129, 130, 1)
+        self.by_all(17, 129, 64 * 129, 64 * 129)
+        self.by_all(3, 4, 9, 9)
+        self.by_all(3, 4, 11, 12)
+        self.by_all(4, 4, 12, 9)
+        self.by_all(4, 4, 12, 13)
+        t, u = floats([0] * 12), floats([9] * 9)
+        self.assertIn(
+            "the form t has 11 numbers: it needs 4 times n",
+            self.refused(3, lambda t: vx.block_values(t, stride=4), t[1:]),
+        )
+        self.assertIn(
+            "the factor u has 9 numbers: it needs 12 numbers",
+            self.refused(4, lambda t, u: vx.reorder_schur(t, u, 0, 1, stride=4), t, u),
+        )
+        self.assertIn(
+            "the form t has a stride of 129: it must be from n, here 2, to 128",
+            self.refused(17, lambda t: vx.reorder_schur(t, None, 0, 1, stride=129), floats([0] * 258)),
+        )
+        self.assertEqual(vx.reorder_schur(floats([0] * 64 * 128), None, 63, 0, stride=128).swaps, 63)
+        for wrong in ("4", 4.0):
+            with self.assertRaises(TypeError):
+                vx.reorder_schur(t, None, 0, 1, stride=wrong)
+
+    def test_columns_refused(self):
+        """2, then 17, then 4, then 7."""
+        self.refused(2, lambda v: vx.column(v, 65, stride=129), floats([0] * 65 * 129))
+        self.refused(17, lambda v: vx.column(v, 3, stride=2), floats([0] * 7))
+        self.refused(17, lambda v: vx.column(v, 3, stride=129), floats([0] * 130))
+        self.refused(4, lambda v: vx.column(v, 3, stride=4), floats([0] * 13))
+        self.refused(7, lambda v: vx.column(v, 3, stride=4), floats([0] * 12))
+        self.assertEqual(len(vx.column(floats([0] * 64 * 128), 63, stride=128)), 64)
+
+    def test_numbers_between_each_other(self):
+        """Form and factor in one array, four of each eight rows."""
+        sheet = floats([0] * 36)
+        for j in range(4):
+            sheet[9 * j], sheet[9 * j + 4] = j + 1, 1
+        t, u = diagonal(1, 2, 3, 4), diagonal(1, 1, 1, 1)
+        answer = vx.reorder_schur(t, u, 0, 3)
+        parts = memoryview(sheet)
+        self.assertEqual(vx.reorder_schur(parts[:32], parts[4:], 0, 3, stride=8), answer)
+        for j in range(4):
+            self.assertEqual(sheet[8 * j : 8 * j + 4], t[4 * j : 4 * j + 4])
+            self.assertEqual(sheet[8 * j + 4 : 8 * j + 8], u[4 * j : 4 * j + 4])
+        before = bytes(sheet)
+        with self.assertRaisesRegex(ValueError, "overlap"):
+            vx.reorder_schur(parts[:32], parts[3:35], 0, 3, stride=8)
+        self.assertEqual(bytes(sheet), before)
+
+
+@unittest.skipUnless(numpy, "NumPy is not there")
+class Corners(Case):
+    """Parts of NumPy arrays, which have their stride from there."""
+
+    @staticmethod
+    def sheet(rows, columns, order="F"):
+        return numpy.array(numpy.resize(OTHERS, (columns, rows)).T, order=order)
+
+    @staticmethod
+    def beside(sheet, *parts):
+        """What stands beside some parts of a sheet, given by their slices."""
+        rest = sheet.copy()
+        for part in parts:
+            rest[part] = 0
+        return rest.tobytes()
+
+    @staticmethod
+    def square(top, left, n):
+        return slice(top, top + n), slice(left, left + n)
+
+    @staticmethod
+    def six():
+        return numpy.array(SIX).reshape((6, 6), order="F")
+
+    @contextlib.contextmanager
+    def lends(self, name, *sheets):
+        """What a call of this name lends: its stride, and each buffer's address and length. All of it
+        lies inside one of the sheets, or beside them all."""
+        seen, call = [], vx._CALLS[name]
+
+        def spy(*given):
+            seen.append(given[1])
+            for memory, length in zip(given, given[1:]):
+                if isinstance(memory, ctypes.Array):
+                    self.assertEqual(len(memory), length)
+                    seen.append(ctypes.addressof(memory) if length else None)
+                    for sheet in sheets:
+                        start = sheet.ctypes.data - ctypes.addressof(memory)
+                        inside = start <= 0 and 8 * length <= start + sheet.nbytes
+                        self.assertTrue(inside or start >= 8 * length or start + sheet.nbytes <= 0)
+            return call(*given)
+
+        with unittest.mock.patch.dict(vx._CALLS, {name: spy}):
+            yield seen
+
+    def test_in_place(self):
+        """At every stride, in several places: every second column is a stride too."""
+        moved = self.six()
+        answer = vx.reorder_schur(moved, None, 5, 0)
+        for rows, top, left, step in (
+            *((7, 0, 0, 1), (7, 1, 1, 1), (8, 0, 2, 1), (8, 2, 1, 1), (12, 6, 3, 1), (64, 58, 0, 1)),
+            *((127, 50, 2, 1), (128, 0, 3, 1), (128, 122, 2, 1), (64, 9, 0, 2), (10, 3, 1, 3)),
+        ):
+            sheet = self.sheet(rows, left + 6 * step + 1)
+            part = slice(top, top + 6), slice(left, left + 6 * step, step)
+            sheet[part] = self.six()
+            beside = self.beside(sheet, part)
+            with self.lends("reorder_schur", sheet) as seen:
+                self.assertEqual(vx.reorder_schur(sheet[part], None, 5, 0), answer)
+            self.assertEqual(seen, [rows * step, sheet[part].ctypes.data, None])
+            self.assertEqual(sheet[part].tobytes(), moved.tobytes())
+            self.assertEqual(self.beside(sheet, part), beside)
+
+    def test_at_the_end(self):
+        """Fewer numbers than the stride times n from the first on: through a copy."""
+        moved, swapped = self.six(), self.six()
+        vx.reorder_schur(moved, None, 5, 0)
+        vx.schur_swap(swapped, None, 1, 2, 1)
+        for rows, top in ((8, 2), (8, 1), (200 - 72, 1)):
+            sheet, part = self.sheet(rows, 8), self.square(top, 2, 6)
+            beside = self.beside(sheet, part)
+            for name, call, result in (
+                ("reorder_schur", lambda t: vx.reorder_schur(t, None, 5, 0), moved),
+                ("schur_swap", lambda t: vx.schur_swap(t, None, 1, 2, 1), swapped),
+            ):
+                sheet[part] = self.six()
+                with self.lends(name, sheet) as seen:
+                    call(sheet[part])
+                self.assertEqual(seen[0], 6)
+                self.assertEqual(sheet[part].tobytes(), result.tobytes())
+                self.assertEqual(self.beside(sheet, part), beside)
+            self.refused(7, lambda sheet: vx.reorder_schur(sheet[part], None, 6, 0), sheet)
+
+    def test_a_view_of_a_view(self):
+        """What counts is the array that owns the memory, also where a view ends before it."""
+        sheet = self.sheet(9, 9)
+        sheet[1:7, 1:7] = self.six()
+        kind = type("Kind", (numpy.ndarray,), {})
+        for part in (sheet[:7, :7][1:, 1:], sheet.view(kind)[1:7, 1:7], sheet.T.T[1:7, 1:7]):
+            with self.lends("reorder_schur", sheet) as seen:
+                vx.reorder_schur(part, None, 0, 0)
+            self.assertEqual(seen, [9, sheet[1:, 1:].ctypes.data, None])
+        flat = array("d", sheet.tobytes(order="F"))
+        for owner in (numpy.frombuffer(flat), numpy.frombuffer(flat)[:72]):
+            part = owner.reshape((9, -1), order="F")[1:7, 1:7]
+            with self.lends("reorder_schur", owner) as seen:
+                vx.reorder_schur(part, None, 0, 0)
+            self.assertEqual(seen[0], 9)
+        for part in (memoryview(sheet[1:7, 1:7]), numpy.lib.stride_tricks.as_strided(sheet[1:7, 1:7])):
+            with self.lends("reorder_schur", sheet) as seen:
+                vx.reorder_schur(part, None, 0, 0)
+            self.assertEqual(seen[0], 6)  # a copy: the end of the array is not known
+        self.assertEqual(sheet[1:7, 1:7].tobytes(), self.six().tobytes())
+
+    def pair(self, form, factor, stride, in_place):
+        """A move of form and factor, each a sheet and its part, beside the same without gaps; the
+        stride, and which of the two are lent in place."""
+        (first, t), (second, u) = form, factor
+        first[t], second[u] = self.six(), numpy.eye(6)
+        moved, turned = self.six(), numpy.eye(6, order="F")
+        answer = vx.reorder_schur(moved, turned, 5, 0)
+        parts = ((t, u), (t, u)) if first is second else ((t,), (u,))
+        before = self.beside(first, *parts[0]), self.beside(second, *parts[1])
+        self.refused(7, lambda *_: vx.reorder_schur(first[t], second[u], 5, 6), first, second)
+        with self.lends("reorder_schur", first, second) as seen:
+            self.assertEqual(vx.reorder_schur(first[t], second[u], 5, 0), answer)
+        self.assertEqual(seen[0], stride)
+        places = first[t].ctypes.data, second[u].ctypes.data
+        self.assertEqual([place == lent for place, lent in zip(places, seen[1:])], in_place)
+        self.assertEqual(first[t].tobytes(), moved.tobytes())
+        self.assertEqual(second[u].tobytes(), turned.tobytes())
+        self.assertEqual((self.beside(first, *parts[0]), self.beside(second, *parts[1])), before)
+
+    def test_form_and_factor(self):
+        part = self.square
+        sheet, other, taller = self.sheet(14, 14), self.sheet(14, 9), self.sheet(20, 9)
+        whole, end = (slice(None), slice(None)), part(8, 8, 6)
+        self.pair((sheet, part(2, 3, 6)), (other, part(1, 1, 6)), 14, [True, True])
+        self.pair((sheet, part(2, 3, 6)), (taller, part(1, 1, 6)), 14, [True, False])
+        self.pair((sheet, part(2, 3, 6)), (self.sheet(6, 6), whole), 14, [True, False])
+        self.pair((self.sheet(6, 6), whole), (sheet, part(2, 3, 6)), 6, [True, False])
+        self.pair((sheet, end), (taller, part(1, 1, 6)), 20, [False, True])
+        self.pair((sheet, end), (other, part(8, 3, 6)), 6, [False, False])
+        self.pair((sheet, end), (self.sheet(6, 6), whole), 6, [False, True])
+
+    def test_form_and_factor_in_one_array(self):
+        part, sheet = self.square, self.sheet(14, 14)
+        self.pair((sheet, part(0, 0, 6)), (sheet, part(0, 6, 6)), 14, [True, True])
+        self.pair((sheet, part(2, 0, 6)), (sheet, part(2, 6, 6)), 14, [True, True])
+        self.pair((sheet, part(0, 0, 6)), (sheet, part(6, 0, 6)), 14, [True, False])
+        self.pair((sheet, part(6, 0, 6)), (sheet, part(0, 0, 6)), 14, [True, False])
+        self.pair((sheet, part(0, 0, 6)), (sheet, part(8, 5, 6)), 14, [True, False])
+        self.pair((sheet, part(8, 8, 6)), (sheet, part(0, 8, 6)), 14, [False, True])
+        self.pair((sheet, part(0, 8, 6)), (sheet, part(8, 8, 6)), 14, [True, False])
+        columns = slice(0, 6), slice(0, 12, 2)
+        between = slice(0, 6), slice(1, 13, 2)
+        self.pair((sheet, columns), (sheet, between), 28, [True, False])
+
+    def test_form_and_factor_that_share_numbers(self):
+        sheet, part = self.sheet(14, 14), self.square
+        sheet[part(0, 0, 14)] = 0
+        before = sheet.tobytes()
+        flat = sheet.reshape(-1, order="F")
+        for u in (sheet[0:6, 0:6], sheet[5:11, 0:6], sheet[0:6, 5:11], sheet[5:11, 5:11], flat[75:111]):
+            self.assertTrue(numpy.shares_memory(sheet[0:6, 0:6], u))
+            with self.assertRaisesRegex(ValueError, "two buffers of one call overlap"):
+                vx.reorder_schur(sheet[0:6, 0:6], u, 0, 1)
+        self.assertEqual(sheet.tobytes(), before)
+
+    def test_values_and_vectors(self):
+        values, vectors = vx.block_values(self.six()), vx.evd_from_real_schur(self.six())
+        for rows in (8, 128, 129, 300):  # what is only read is copied, whatever its stride
+            for order in "FC":
+                sheet, part = self.sheet(rows, 8, order), self.square(2, 2, 6)
+                sheet[part] = self.six()
+                sheet.setflags(write=False)
+                for x, y in zip(vx.block_values(sheet[part]), values):
+                    self.assertEqual(x.tobytes(), y.tobytes())
+                self.assertEqual(vx.evd_from_real_schur(sheet[part]).tobytes(), vectors.tobytes())
+
+        v = vx.evd_from_real_schur(self.six(), numpy.full((6, 6), 9.0, order="F"))
+        for rows, left, stride in ((8, 1, 8), (8, 2, 6), (128, 0, 128)):
+            sheet, part = self.sheet(rows, 8), self.square(2, left, 6)
+            sheet[part] = 9
+            beside = self.beside(sheet, part)
+            self.refused(5, lambda sheet: vx.evd_from_real_schur(numpy.tri(6), sheet[part]), sheet)
+            with self.lends("evd_from_real_schur", sheet) as seen:
+                vx.evd_from_real_schur(self.six(), sheet[part])
+            self.assertEqual(seen[0], stride)
+            self.assertEqual(seen[2] == sheet[part].ctypes.data, stride == rows)
+            self.assertEqual(sheet[part].tobytes(), v.tobytes())
+            self.assertEqual(self.beside(sheet, part), beside)
+
+        sheet = self.sheet(8, 8)
+        form = sheet[:6, :6]
+        form[:] = self.six()
+        vx.block_values(form, sheet[2:, 6], sheet[2:, 7])
+        self.assertEqual([sheet[2:, 6].tobytes(), sheet[2:, 7].tobytes()], [part.tobytes() for part in values])
+        vx.evd_from_real_schur(form, form)  # what is read is copied, so it may be what is written
+        self.assertEqual(numpy.triu(form).tobytes(), numpy.triu(vectors).tobytes())
+
+    def test_columns(self):
+        for order in "FC":
+            sheet = self.sheet(9, 9, order)
+            part = sheet[2:8, 3:9]
+            part[:] = numpy.arange(36).reshape(6, 6)
+            self.assertEqual(vx.column(part, 4).tolist(), part[:, 4].tolist())
+            vx.column(part, 4)[1] = 77
+            self.assertEqual(sheet[3, 7], 77)
+            sheet.setflags(write=False)
+            self.assertTrue(vx.column(sheet[2:8, 3:9], 4).readonly)
+        self.refused(2, lambda sheet: vx.column(sheet[:65, :65], 65), self.sheet(129, 65))
+        self.refused(17, lambda sheet: vx.column(sheet[:6, :6], 6), self.sheet(129, 6))
+        self.refused(4, lambda sheet: vx.column(sheet[:6, :5], 6), self.sheet(128, 6))
+        self.refused(7, lambda sheet: vx.column(sheet[:6, :6], 6), self.sheet(128, 6))
+
+    def test_strides_refused(self):
+        def move(sheet, other=None):
+            return vx.reorder_schur(sheet[:6, :6], None if other is None else other[:6, :6], 0, 1)
+
+        far, near = self.sheet(129, 7), self.sheet(128, 7)
+        far[:6, :6], near[:6, :6] = self.six(), self.six()
+        self.assertEqual(move(near).swaps, 1)
+        self.assertIn("the form t has a stride of 129", self.refused(17, move, far))
+        self.assertIn("the factor u has a stride of 129", self.refused(17, move, near, far))
+        self.refused(17, move, far, near)
+        self.refused(17, lambda v: vx.evd_from_real_schur(self.six(), v[:6, :6]), far)
+        self.refused(2, lambda t: vx.schur_swap(t[:65, :65], None, 0, 1, 1), self.sheet(129, 66))
+        self.refused(3, lambda t: vx.schur_swap(t[:6, :5], None, 0, 1, 1), far)
+        self.refused(4, lambda t, u: vx.schur_swap(t[:6, :6], u[:6, :5], 0, 1, 1), near, self.sheet(7, 7))
+        for below in (0, 8, 40):  # columns that overlap
+            part = numpy.lib.stride_tricks.as_strided(near, (6, 6), (8, below))
+            self.refused(17, lambda _: vx.reorder_schur(part, None, 0, 1), near)
+            self.refused(17, lambda _: vx.reorder_schur(self.six(), part, 0, 1), near)
+        with self.assertRaisesRegex(TypeError, "the form t of two has its own"):
+            vx.reorder_schur(near[:6, :6], None, 0, 1, stride=128)
+
+    def test_layouts_refused(self):
+        sheet = self.sheet(12, 12)
+        sheet[:] = 0
+        wrong = [sheet[:12:2, :6], sheet[5::-1, :6], sheet[:6, 5::-1], sheet[:6, :6].T]
+        wrong += [self.sheet(12, 12, "C")[:6, :6], numpy.broadcast_to(sheet[0, :6], (6, 6))]
+        wrong += [sheet.astype(kind)[:6, :6] for kind in ("f4", ">f8", "c16")]
+        still = sheet[:6, :6]
+        still.setflags(write=False)
+        before = sheet.tobytes()
+        for part in (*wrong, still):
+            for call in (
+                lambda: vx.reorder_schur(part, None, 0, 1),
+                lambda: vx.schur_swap(self.six(), part, 0, 1, 1),
+                lambda: vx.evd_from_real_schur(SIX, part),
+            ):
+                with self.assertRaises(TypeError):
+                    call()
+        with self.assertRaisesRegex(TypeError, "Fortran order or a part of an array in that order"):
+            vx.reorder_schur(wrong[0], None, 0, 1)
+        self.assertEqual(sheet.tobytes(), before)
+
+    def test_one_row(self):
+        """A single number has no stride."""
+        sheet = self.sheet(300, 3)
+        sheet[299, 2] = 5
+        self.assertEqual(vx.reorder_schur(sheet[299:, 2:], None, 0, 0), (0, 0, 0))
+        self.assertEqual(vx.column(sheet[299:, 2:], 0).tolist(), [5])
+
+    def test_any_two_parts(self):
+        """Moves on random parts of one array or two, beside the same without gaps."""
+        random = numpy.random.default_rng(1)
+
+        def form(n):
+            t, j = numpy.triu(random.standard_normal((n, n))), 0
+            while j + 1 < n:
+                if random.random() < 0.4:
+                    t[j + 1, j] = -t[j, j + 1]
+                    t[j + 1, j + 1] = t[j, j]
+                    j += 1
+                j += 1
+            return t
+
+        shared = 0
+        for _ in range(600):
+            n = int(random.integers(1, 7))
+            sheets = [self.sheet(*map(int, random.integers(n, 2 * n + 3, 2))) for _ in range(2)]
+            if random.random() < 0.6:
+                sheets[1] = sheets[0]
+            parts = [
+                self.square(*(int(random.integers(0, size - n + 1)) for size in sheet.shape), n) for sheet in sheets
+            ]
+            (first, second), (t, u) = sheets, parts
+            second[u] = random.standard_normal((n, n))
+            first[t] = form(n)
+            before = first.tobytes(), second.tobytes()
+            small_t, small_u = (numpy.array(sheet[part], order="F") for sheet, part in zip(sheets, parts))
+            from_, to = map(int, random.integers(0, n, 2))
+            if numpy.shares_memory(first[t], second[u]):
+                shared += 1
+                with self.assertRaisesRegex(ValueError, "overlap"):
+                    vx.reorder_schur(first[t], second[u], from_, to)
+                self.assertEqual((first.tobytes(), second.tobytes()), before)
+                continue
+            self.refused(7, lambda first, second: vx.reorder_schur(first[t], second[u], n, to), first, second)
+            expected = [sheet.copy() for sheet in sheets]
+            if first is second:
+                expected[1] = expected[0]
+            answer = vx.reorder_schur(small_t, small_u, from_, to)
+            expected[0][t], expected[1][u] = small_t, small_u
+            with self.lends("reorder_schur", *sheets):
+                self.assertEqual(vx.reorder_schur(first[t], second[u], from_, to), answer)
+            self.assertEqual([sheet.tobytes() for sheet in sheets], [sheet.tobytes() for sheet in expected])
+        self.assertTrue(100 < shared < 400, shared)
 
 
 if __name__ == "__main__":

@@ -7,10 +7,38 @@ NaN is not zero, minus zero is); all other rows are 1-blocks. A factor and vecto
 layout.
 
 A buffer that a call writes is an array('d') or anything with the same kind of memory, such as a
-NumPy array of float64; one of two dimensions must be in Fortran order. What a call only reads may
-also be a list, read-only, in C order or with gaps. Arrays that a call makes are NumPy's where the
-form is, and array('d') otherwise. A call that is turned away raises Refusal and has changed no
-buffer.
+NumPy array of float64; one of two dimensions must be in Fortran order, or a part of one that is.
+What a call only reads may also be a list, read-only, in C order or with gaps. Arrays that a call
+makes have no gaps; they are NumPy's where the form is, and array('d') otherwise. A call that is
+turned away raises Refusal and has changed no buffer.
+
+A form, factor or vectors may stand in the corner of a larger array. What stands beside them has no
+say in a result and stays as it is.
+
+* A part of a NumPy array in Fortran order, such as a[2:8, 2:8], brings its stride: the number of
+  rows of a, which must be 128 at most.
+* One dimension has a stride where it is given: row i, column j then stands at i + stride * j, and
+  there are stride * n numbers, with stride from n to 128.
+
+    >>> from array import array
+    >>> import volmeixi
+    >>> sheet = array("d", [7] * 25)  # five rows; the form stands in rows and columns 1 and 2
+    >>> sheet[6], sheet[7], sheet[11], sheet[12] = 1, 0, 0, 2
+    >>> volmeixi.reorder_schur(memoryview(sheet)[6:16], None, 0, 1, stride=5)
+    Moved(landed=1, swaps=1, declined=0)
+    >>> sheet[6], sheet[12], sheet[8]
+    (2.0, 1.0, 7.0)
+
+A call works in place, and at one stride: the form's, or that of vectors which are lent. What cannot
+be lent at this stride is lent as a copy, which is written back once the call is carried out: a
+factor of another stride, or one that stands in the rows beside the form; and a part with fewer than
+stride * n numbers from its first on, since it begins below row 0 and ends in the last column of its
+array. Nothing outside an array is lent.
+
+A stride below n or above 128 is refused with 17 where a part is to be written; what is only read is
+copied, whatever its stride. A buffer to be written raises TypeError if it is read-only, has another
+kind of numbers, or has those of a column not one after the other (C order, every second row, rows or
+columns backwards), and ValueError if it shares a number with another.
 
 The shared library, made by bindings/python/build, is VOLMEIXI_LIBRARY, or libvolmeixi.so beside
 this file, or the one in the repository's target/bindings.
@@ -23,6 +51,7 @@ if __name__ == "__main__":  # before the library is asked for: the command says 
 
     raise SystemExit(volmeixi_desk.command.main())
 
+import contextlib
 import ctypes
 import math
 import operator
@@ -66,9 +95,10 @@ __all__ = [
 
 _MESSAGES = {
     2: "the number of rows n is 0 or above 64",
-    3: "the form's length is not n times n",
-    4: "the length of a further buffer is wrong: a factor needs n times n numbers or none, "
-    "vectors n times n, each part of block values n",
+    17: "the stride is below n or above 128",
+    3: "the form's length is not the stride times n",
+    4: "the length of a further buffer is wrong: a factor needs the stride times n numbers or none, "
+    "vectors the stride times n, each part of block values n",
     5: "the form has an entry more than one row below the diagonal that is not zero",
     6: "the form has two neighbouring entries just below the diagonal that are both not zero",
     7: "a position or column number is not below n",
@@ -80,9 +110,9 @@ _MESSAGES = {
 
 
 class Refusal(ValueError):
-    """Why a call was turned away; number is that of the first line that applies, 2 to 11.
+    """Why a call was turned away; number is that of the first line that applies: 2, 17, 3 to 11.
 
-    Of lines 3 and 4 the message names the buffer and what it is.
+    Of lines 17, 3 and 4 the message names the buffer and what it is.
     """
 
     def __init__(self, number, message=None):
@@ -182,10 +212,10 @@ _GIVEN = {
     "make_householder_in_place": (_SIZE, _FLOAT, *_FLOATS, *[_TO_FLOAT] * 4),
     "lahqr_schur22": (_SIZE, *[_FLOAT] * 4, *[_TO_FLOAT] * 10),
     "lasy2": (None, *[_TO_FLOAT] * 5),
-    "schur_swap": (_SIZE, _SIZE, *_FLOATS, *_FLOATS, *[_SIZE] * 3, *[_TO_SIZE] * 2),
-    "reorder_schur": (_SIZE, _SIZE, *_FLOATS, *_FLOATS, *[_SIZE] * 2, *[_TO_SIZE] * 3),
-    "block_values": (_SIZE, _SIZE, *_FLOATS, *_FLOATS, *_FLOATS),
-    "evd_from_real_schur": (_SIZE, _SIZE, *_FLOATS, *_FLOATS),
+    "schur_swap": (_SIZE, *[_SIZE] * 2, *_FLOATS, *_FLOATS, *[_SIZE] * 3, *[_TO_SIZE] * 2),
+    "reorder_schur": (_SIZE, *[_SIZE] * 2, *_FLOATS, *_FLOATS, *[_SIZE] * 2, *[_TO_SIZE] * 3),
+    "block_values": (_SIZE, *[_SIZE] * 2, *_FLOATS, *_FLOATS, *_FLOATS),
+    "evd_from_real_schur": (_SIZE, *[_SIZE] * 2, *_FLOATS, *_FLOATS),
 }
 
 
@@ -214,10 +244,16 @@ _LARGEST = _SIZE(-1).value
 
 
 class _Buffer(NamedTuple):
-    """Memory of floats, column after column, and the shape that it came in."""
+    """Memory of floats, column after column, and the shape that it came in.
+
+    stride is how far the next column is, and None where there is no gap. The memory begins with the
+    first number and has stride * n, or fewer where the array ends; held is what keeps it.
+    """
 
     memory: ctypes.Array
     shape: tuple
+    stride: int = None
+    held: object = None
 
 
 def _flat(given):
@@ -256,14 +292,27 @@ def _view(x):
     return view
 
 
-def _column_wise(x):
-    """x, or its transpose, whose places follow each other as the columns of x do."""
-    view = _view(x)
-    if view.c_contiguous and view.ndim == 1:
-        return x
-    if not view.f_contiguous:
-        raise TypeError("a buffer that is written must be without gaps, and of two dimensions in Fortran order")
-    return x if view.c_contiguous else x.T
+def _stride(view):
+    """How far the next column is, where there are gaps between columns and none inside them."""
+    gaps = view.ndim == 2 and not view.f_contiguous
+    return view.strides[1] // 8 if gaps and view.strides[0] == 8 and view.strides[1] >= 0 else None
+
+
+def _array(x):
+    """x of two dimensions, as NumPy's over the same memory."""
+    numpy = sys.modules.get("numpy")
+    if numpy is None:
+        raise TypeError("a buffer of two dimensions must be a NumPy array")
+    return numpy.asarray(x)
+
+
+def _room(x):
+    """How many numbers there are from the first of x to the end of the array that owns its memory."""
+    owner = x
+    while isinstance(owner.base, type(x)):
+        owner = owner.base
+    last = sum(max(0, step * (size - 1)) for size, step in zip(owner.shape, owner.strides))
+    return (owner.ctypes.data + last + owner.itemsize - x.ctypes.data) // 8
 
 
 def _lent(x):
@@ -271,7 +320,18 @@ def _lent(x):
     view = _view(x)
     if view.readonly:
         raise TypeError("a buffer that is written must not be read-only")
-    return _Buffer((_FLOAT * (view.nbytes // 8)).from_buffer(_column_wise(x)), view.shape)
+    if view.f_contiguous:
+        memory = (_FLOAT * (view.nbytes // 8)).from_buffer(x if view.c_contiguous else _array(x).T)
+        return _Buffer(memory, view.shape)
+    stride = _stride(view)
+    if stride is None:
+        raise TypeError(
+            "a buffer that is written must be without gaps, and of two dimensions in Fortran order or a part "
+            "of an array in that order"
+        )
+    x = _array(x)
+    memory = (_FLOAT * min(stride * view.shape[1], _room(x))).from_address(x.ctypes.data)
+    return _Buffer(memory, view.shape, stride, x)
 
 
 def _given(x):
@@ -296,108 +356,181 @@ def _said(shape):
     return f"{shape[0]} number{'s' * (shape[0] != 1)}" if len(shape) == 1 else f"shape {shape}"
 
 
-def _rows(shape, line, what):
-    """n of a shape (n, n), or of n * n numbers; any other is refused by the line."""
-    n = math.isqrt(math.prod(shape))
-    if shape not in ((n, n), (n * n,)):
-        raise Refusal(line, f"{what} has {_said(shape)}: it needs n times n, or shape (n, n)")
-    return n
-
-
-def _fits(n, buffer, what, *shapes):
-    """Line 4, where line 2 does not apply: the buffer has one of the shapes."""
-    if 1 <= n <= 64 and buffer.shape not in shapes:
+def _fits(buffer, what, *shapes):
+    """Line 4: the buffer has one of the shapes."""
+    if buffer.shape not in shapes:
         raise Refusal(4, f"{what} has {_said(buffer.shape)}: it needs {' or '.join(map(_said, shapes))}")
 
 
-def _apart(x, y):
-    """Two buffers that are written must not share memory."""
+def _reaches(n, stride, what):
+    """Line 17: the stride is n to 128."""
+    if not n <= stride <= 128:
+        raise Refusal(17, f"{what} has a stride of {stride}: it must be from n, here {n}, to 128")
+
+
+def _rows(buffer, stride, line, what):
+    """n, and the buffer with its stride: in one dimension the one given, or n. Lines 2 and 17, and the
+    line for a buffer that has no n."""
+    size = math.prod(buffer.shape)
+    if stride is None:
+        n = math.isqrt(size)
+        if buffer.shape not in ((n, n), (n * n,)):
+            raise Refusal(line, f"{what} has {_said(buffer.shape)}: it needs n times n, or shape (n, n)")
+        stride = n if buffer.stride is None else buffer.stride
+    elif len(buffer.shape) == 1:
+        stride = operator.index(stride)
+        n = size // stride if stride > 0 else 1
+    else:
+        raise TypeError(f"a stride goes with one dimension: {what} of two has its own")
+    if not 1 <= n <= 64:
+        raise Refusal(2)
+    _reaches(n, stride, what)
+    if len(buffer.shape) == 1 and size != stride * n:
+        raise Refusal(line, f"{what} has {_said(buffer.shape)}: it needs {stride} times n")
+    return n, buffer._replace(stride=stride)
+
+
+def _beside(n, stride, buffer, what):
+    """A factor or vectors beside a form of n rows, with their stride as in _rows. Lines 17 and 4."""
+    flat = n if stride is None else stride
+    own = flat if len(buffer.shape) == 1 else n if buffer.stride is None else buffer.stride
+    _reaches(n, own, what)
+    _fits(buffer, what, (flat * n,), (n, n))
+    return buffer._replace(stride=own)
+
+
+# ---- Memory
+
+
+def _overlap(x, y):
+    """Whether a byte belongs to the memory of both."""
     start, other = ctypes.addressof(x.memory), ctypes.addressof(y.memory)
-    if start < other + ctypes.sizeof(y.memory) and other < start + ctypes.sizeof(x.memory):
+    return start < other + ctypes.sizeof(y.memory) and other < start + ctypes.sizeof(x.memory)
+
+
+def _columns(n, buffer):
+    """Where each column begins."""
+    return [ctypes.addressof(buffer.memory) + 8 * buffer.stride * j for j in range(n)]
+
+
+def _apart(x, y, n=None):
+    """Two buffers that are written must not share a number; of n rows, they may what stands beside these."""
+    shared = _overlap(x, y)
+    if shared and n is not None:
+        shared = any(abs(p - q) < 8 * n for p in _columns(n, x) for q in _columns(n, y))
+    if shared:
         raise ValueError("two buffers of one call overlap")
 
 
-def _form_and_factor(t, u):
-    t, u = _lent(t), _lent(array("d") if u is None else u)
-    n = _rows(t.shape, 3, "the form t")
-    if len(u.memory):
-        _fits(n, u, "the factor u", (n * n,), (n, n), (0,))
-    _apart(t, u)
-    return n, t, u
+def _copy(n, source, target):
+    """The n rows of one buffer to another."""
+    for start, goal in zip(_columns(n, source), _columns(n, target)):
+        ctypes.memmove(goal, start, 8 * n)
+
+
+@contextlib.contextmanager
+def _at_one_stride(n, *buffers):
+    """The stride of the first buffer that can be lent in place, and all buffers as they are lent at it:
+    in place or, where that cannot be, as copies, written back unless the call is turned away."""
+    whole = [buffer.stride for buffer in buffers if buffer.memory and len(buffer.memory) == buffer.stride * n]
+    stride = whole[0] if whole else n
+    lent, copies = [], []
+    for buffer in buffers:
+        fits = buffer.stride == stride and len(buffer.memory) == stride * n
+        if buffer.memory and (not fits or any(_overlap(buffer, other) for other in lent)):
+            copy = _Buffer((_FLOAT * (stride * n))(), buffer.shape, stride)
+            _copy(n, buffer, copy)
+            copies.append((copy, buffer))
+            buffer = copy
+        lent.append(buffer)
+    yield (stride, *lent)
+    for copy, buffer in copies:
+        _copy(n, copy, buffer)
 
 
 # ---- Moves
 
 
-def reorder_schur(t, u, from_, to):
+def _changed(name, t, u, stride, *sizes, count):
+    """The results of a call that changes form and factor."""
+    t, u = _lent(t), _lent(array("d") if u is None else u)
+    n, t = _rows(t, stride, 3, "the form t")
+    if math.prod(u.shape):
+        u = _beside(n, stride, u, "the factor u")
+        _apart(t, u, n)
+    with _at_one_stride(n, t, u) as (stride, t, u):
+        return _several(name, n, stride, t, u, *map(_size, sizes), count=count, kind=_SIZE)
+
+
+def reorder_schur(t, u, from_, to, *, stride=None):
     """Moves the block in row from_ of the form t to row to; the factor u, or None, goes along.
 
-    Both are changed in place. A position inside a 2-block means the block's first row. Gives Moved.
+    Both are changed in place. A position inside a 2-block means the block's first row. stride is that
+    of one dimension, if it is not n. Gives Moved.
     """
-    n, t, u = _form_and_factor(t, u)
-    return Moved(*_several("reorder_schur", n, t, u, _size(from_), _size(to), count=3, kind=_SIZE))
+    return Moved(*_changed("reorder_schur", t, u, stride, from_, to, count=3))
 
 
-def schur_swap(t, u, j0, n1, n2):
+def schur_swap(t, u, j0, n1, n2, *, stride=None):
     """Exchanges the n1 rows from row j0 on with the n2 rows below them. Gives Exchanged.
 
-    swaps is 1 to 4, and 4 exactly when n1 and n2 are 2, each with a zero inside.
+    swaps is 1 to 4, and 4 exactly when n1 and n2 are 2, each with a zero inside. Form, factor and
+    stride are as in reorder_schur.
     """
-    n, t, u = _form_and_factor(t, u)
-    return Exchanged(*_several("schur_swap", n, t, u, _size(j0), _size(n1), _size(n2), count=2, kind=_SIZE))
+    return Exchanged(*_changed("schur_swap", t, u, stride, j0, n1, n2, count=2))
 
 
 # ---- Values and vectors
 
 
-def block_values(t, re=None, im=None):
+def block_values(t, re=None, im=None, *, stride=None):
     """The values of the form's blocks: their real and imaginary parts, n numbers each.
 
     A 1-block gives its diagonal number and +0; a 2-block its first diagonal number twice, with m
     and then -m, where m is the root of the lower entry's magnitude times that of the upper's.
-    Written to re and im where they are lent, else to new arrays. Gives both.
+    Written to re and im where they are lent, else to new arrays. stride is that of a form of one
+    dimension, if it is not n. Gives both.
     """
-    form = _given(t)
-    n = _rows(form.shape, 3, "the form t")
+    n, form = _rows(_given(t), stride, 3, "the form t")
     re, im = (_new(t, n) if part is None else part for part in (re, im))
     lent_re, lent_im = _lent(re), _lent(im)
-    _fits(n, lent_re, "re", (n,))
-    _fits(n, lent_im, "im", (n,))
+    _fits(lent_re, "re", (n,))
+    _fits(lent_im, "im", (n,))
     _apart(lent_re, lent_im)
-    _run("block_values", n, form, lent_re, lent_im)
+    _run("block_values", n, form.stride, form, lent_re, lent_im)
     return re, im
 
 
-def evd_from_real_schur(t, v=None):
+def evd_from_real_schur(t, v=None, *, stride=None):
     """The vectors of the form, n by n numbers, a column each.
 
     A 1-block's column is its vector; a 2-block's two columns are the real and the imaginary part.
     A column is written from row 0 to the last row of its block; the rest stays as it was. Written
-    to v where it is lent, else to a new array, where the rest is zeros. Gives it.
+    to v where it is lent, else to a new array, where the rest is zeros. stride is that of one
+    dimension, if it is not n. Gives v.
     """
-    form = _given(t)
-    n = _rows(form.shape, 3, "the form t")
-    v = _new(t, n, n) if v is None else v
-    lent = _lent(v)
-    _fits(n, lent, "v", (n * n,), (n, n))
-    _run("evd_from_real_schur", n, form, lent)
+    n, form = _rows(_given(t), stride, 3, "the form t")
+    if v is None:
+        v, stride = _new(t, n, n), None
+    lent = _beside(n, stride, _lent(v), "v")
+    with _at_one_stride(n, lent, form) as (stride, lent, form):
+        _run("evd_from_real_schur", n, stride, form, lent)
     return v
 
 
-def column(v, col):
-    """Column col of the vectors v as a memoryview of n numbers, a part of v itself."""
+def column(v, col, *, stride=None):
+    """Column col of the vectors v, in any layout, as a memoryview of n numbers, a part of v itself.
+
+    stride is that of one dimension, if it is not n.
+    """
     view = _view(v)
-    if not (view.c_contiguous or view.f_contiguous):
-        raise TypeError("vectors must be without gaps")
-    n = _rows(view.shape, 4, "v")
+    n, vectors = _rows(_Buffer(None, view.shape, _stride(view)), stride, 4, "v")
     col = _size(col)
-    if not 1 <= n <= 64:
-        raise Refusal(2)
     if n <= col:
         raise Refusal(7)
-    by_rows = view.ndim == 2 and not view.f_contiguous
-    flat = memoryview(v if by_rows else _column_wise(v)).cast("B").cast("d")
-    return flat[col::n] if by_rows else flat[n * col : n * col + n]
+    if view.ndim == 1:
+        return view[vectors.stride * col : vectors.stride * col + n]
+    return view.cast("B").cast("d")[col::n] if view.c_contiguous else memoryview(_array(v)[:, col])
 
 
 # ---- Blocks of two rows

@@ -56,16 +56,18 @@ static void named(const char *who, const char *names, const double *x) {
 }
 
 // Rows in parentheses.
-static void rows(const char *who, int n, const double *t) {
+static void rows_at(const char *who, int n, int ld, const double *t) {
     printf("  %-8s", who);
     for (int i = 0; i < n; i++) {
         printf(" (");
         for (int j = 0; j < n; j++)
-            printf("%s%s", j ? " " : "", number(t[i + n * j]));
+            printf("%s%s", j ? " " : "", number(t[i + ld * j]));
         printf(")");
     }
     printf("\n");
 }
+
+static void rows(const char *who, int n, const double *t) { rows_at(who, n, n, t); }
 
 // One number of each side.
 static void one(const char *who, double x) { printf("  %-8s %s\n", who, number(x)); }
@@ -201,6 +203,29 @@ static void move(int n, const double *by_rows, int from, int to) {
     rows("", n, us);
     printf("  dtrexc   info %d  landed %d  exchanges%s\n", info, landed, calls);
     rows("", n, them);
+}
+
+// The diagonal 1, 2, .. at a stride, in so many numbers, those beside it 7, and the unit factor at
+// another stride, or at 0 none.
+static void strides(int n, int ld, int len, int ldu, int from, int to) {
+    double t[2 * 129], us[2 * 129], uu[4], uq[4], work[MOST];
+    for (int k = 0; k < len; k++)
+        t[k] = k % ld >= n ? 7 : k % ld == k / ld ? k / ld + 1 : 0;
+    for (int k = 0; k < ldu * n; k++)
+        uu[k] = uq[k] = k % ldu == k / ldu;
+    memcpy(us, t, len * sizeof *t);
+    size_t out[3];
+    int ifst = from + 1, ilst = to + 1, ldq = ldu ? ldu : 1, info;
+    calls[0] = 0;
+    printf("move from %d to %d, form of stride %d in %d number%s", from, to, ld, len, len > 1 ? "s" : "");
+    printf(ldu ? ", factor of stride %d in %d number%s\n" : "\n", ldu, ldu * n, ldu * n > 1 ? "s" : "");
+    rows_at("form", n, ld, t);
+    size_t answer = ours_move_at(n, ld, us, len, uu, ldu * n, from, to, out);
+    printf("  ours     answer %zu  landed %zu  swaps %zu  declined %zu\n", answer, out[0], out[1], out[2]);
+    rows_at("", n, ld, us);
+    dtrexc_(ldu ? "V" : "N", &n, t, &ld, uq, &ldq, &ifst, &ilst, work, &info, 1);
+    printf("  dtrexc   info %d  landed %d  exchanges%s\n", info, ilst - 1, calls);
+    rows_at("", n, ld, t);
 }
 
 // ---- random forms
@@ -367,6 +392,10 @@ int main(int argc, char **argv) {
     move(4, FORM(0, 0, 0, 0, 0, 0, 0, 0, 0, 0, 1, -1, 0, 0, 1, -1), 2, 0);
     state = 0x9e3779b97f4a7c15u + 1;
     exchanges(100000);
+    strides(1, 2, 1, 0, 0, 0);
+    strides(2, 3, 5, 0, 0, 1);
+    strides(1, 129, 129, 0, 0, 0);
+    strides(1, 2, 2, 1, 0, 0);
 
     vectors(2, FORM(1, 8, 0, 2));
     vectors(2, FORM(1, 1, 0, 1));

@@ -28,12 +28,18 @@ static inline void ours_sylvester(const double *tl, const double *tr, const doub
     vx_lasy2(tl, tr, b, out, out + 4);
 }
 
-// the row landed on, swaps, declined
+// the row landed on, swaps, declined; ulen 0 is no factor
+static inline size_t ours_move_at(size_t n, size_t ld, double *t, size_t tlen, double *u, size_t ulen, size_t from,
+                                  size_t to, size_t *out) {
+    return vx_reorder_schur(n, ld, t, tlen, u, ulen, from, to, out, out + 1, out + 2);
+}
+
+// the same with the stride n
 static inline size_t ours_move(size_t n, double *t, double *u, size_t from, size_t to, size_t *out) {
-    return vx_reorder_schur(n, t, n * n, u, u ? n * n : 0, from, to, out, out + 1, out + 2);
+    return ours_move_at(n, n, t, n * n, u, u ? n * n : 0, from, to, out);
 }
 
 static inline size_t ours_vectors(size_t n, const double *t, double *v) {
-    return vx_evd_from_real_schur(n, t, n * n, v, n * n);
+    return vx_evd_from_real_schur(n, n, t, n * n, v, n * n);
 }
 #endif

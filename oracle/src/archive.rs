@@ -3,13 +3,16 @@
 use crate::bindings::*;
 use crate::calls;
 use crate::record::Record;
+use crate::stride;
 
 /// What a result holds before a call: no result, and not a NaN.
 const UNWRITTEN: u64 = 0x4c0f_fee4_c0ff_ee77;
 
 /// The archive's answer, or `None` if the archive has no such call.
 pub fn answer(case: &Record) -> Option<Record> {
-    run(case).map(Record::settled)
+    let answer = run(case)?;
+    let strided = stride::taken_by(case.call);
+    Some(if strided { stride::checked(case, answer) } else { answer }.settled())
 }
 
 fn run(case: &Record) -> Option<Record> {
@@ -17,7 +20,7 @@ fn run(case: &Record) -> Option<Record> {
     let two = |f: unsafe extern "C" fn(f64, f64) -> f64, p, q| {
         Record::new(case.call).float("r", unsafe { f(case.f(p), case.f(q)) })
     };
-    Some(match case.call {
+    Some(match stride::base_of(case.call) {
         "abs" => one(vx_abs()?),
         "abs1" => one(vx_abs1()?),
         "abs2" => one(vx_abs2()?),
@@ -138,20 +141,20 @@ fn solve(case: &Record) -> Option<Record> {
 fn exchange(case: &Record) -> Option<Record> {
     let f = vx_schur_swap()?;
     let (mut t, mut u) = (case.l("t").to_vec(), case.l("u").to_vec());
-    let (n, j0, n1, n2) = (case.n("n"), case.n("j0"), case.n("n1"), case.n("n2"));
+    let (n, ld, j0, n1, n2) = (case.n("n"), stride::of(case), case.n("j0"), case.n("n1"), case.n("n2"));
     let [mut swaps, mut declined] = [UNWRITTEN as usize; 2];
     let number =
-        unsafe { f(n, t.as_mut_ptr(), t.len(), u.as_mut_ptr(), u.len(), j0, n1, n2, &mut swaps, &mut declined) };
+        unsafe { f(n, ld, t.as_mut_ptr(), t.len(), u.as_mut_ptr(), u.len(), j0, n1, n2, &mut swaps, &mut declined) };
     Some(calls::counts(numbered(case, number), calls::EXCHANGED, &[swaps, declined]).list("t", t).list("u", u))
 }
 
 fn reorder(case: &Record) -> Option<Record> {
     let f = vx_reorder_schur()?;
     let (mut t, mut u) = (case.l("t").to_vec(), case.l("u").to_vec());
-    let (n, from, to) = (case.n("n"), case.n("from"), case.n("to"));
+    let (n, ld, from, to) = (case.n("n"), stride::of(case), case.n("from"), case.n("to"));
     let [mut landed, mut swaps, mut declined] = [UNWRITTEN as usize; 3];
     let number = unsafe {
-        f(n, t.as_mut_ptr(), t.len(), u.as_mut_ptr(), u.len(), from, to, &mut landed, &mut swaps, &mut declined)
+        f(n, ld, t.as_mut_ptr(), t.len(), u.as_mut_ptr(), u.len(), from, to, &mut landed, &mut swaps, &mut declined)
     };
     Some(calls::counts(numbered(case, number), calls::MOVED, &[landed, swaps, declined]).list("t", t).list("u", u))
 }
@@ -159,13 +162,15 @@ fn reorder(case: &Record) -> Option<Record> {
 fn block_values(case: &Record) -> Option<Record> {
     let (f, t) = (vx_block_values()?, Given::new(case, "t"));
     let (mut re, mut im) = (case.l("re").to_vec(), case.l("im").to_vec());
-    let number = unsafe { f(case.n("n"), t.first(), t.len(), re.as_mut_ptr(), re.len(), im.as_mut_ptr(), im.len()) };
+    let (n, ld) = (case.n("n"), stride::of(case));
+    let number = unsafe { f(n, ld, t.first(), t.len(), re.as_mut_ptr(), re.len(), im.as_mut_ptr(), im.len()) };
     Some(t.checked(numbered(case, number).list("re", re).list("im", im)))
 }
 
 fn vectors(case: &Record) -> Option<Record> {
     let (f, t) = (vx_evd_from_real_schur()?, Given::new(case, "t"));
     let mut v = case.l("v").to_vec();
-    let number = unsafe { f(case.n("n"), t.first(), t.len(), v.as_mut_ptr(), v.len()) };
+    let (n, ld) = (case.n("n"), stride::of(case));
+    let number = unsafe { f(n, ld, t.first(), t.len(), v.as_mut_ptr(), v.len()) };
     Some(t.checked(numbered(case, number).list("v", v)))
 }

@@ -24,7 +24,7 @@ type Write = *mut f64;
 type Count = *mut usize;
 
 // A buffer is its first place and its length; a matrix of two rows and a single result are their
-// first place alone.
+// first place alone. A call on a form takes n and the stride first.
 archive! {
     vx_abs(f64) -> f64;
     vx_abs1(f64) -> f64;
@@ -44,8 +44,8 @@ archive! {
         f64, f64, f64, f64, Write, Write, Write, Write, Write, Write, Write, Write, Write, Write
     ) -> usize;
     vx_lasy2(Read, Read, Read, Write, Write) -> ();
-    vx_schur_swap(usize, Write, usize, Write, usize, usize, usize, usize, Count, Count) -> usize;
-    vx_reorder_schur(usize, Write, usize, Write, usize, usize, usize, Count, Count, Count) -> usize;
-    vx_block_values(usize, Read, usize, Write, usize, Write, usize) -> usize;
-    vx_evd_from_real_schur(usize, Read, usize, Write, usize) -> usize;
+    vx_schur_swap(usize, usize, Write, usize, Write, usize, usize, usize, usize, Count, Count) -> usize;
+    vx_reorder_schur(usize, usize, Write, usize, Write, usize, usize, usize, Count, Count, Count) -> usize;
+    vx_block_values(usize, usize, Read, usize, Write, usize, Write, usize) -> usize;
+    vx_evd_from_real_schur(usize, usize, Read, usize, Write, usize) -> usize;
 }

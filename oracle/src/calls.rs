@@ -1,4 +1,5 @@
-//! Each call of document 01: turned away by refuse.rs, or run by the Rust in taken.rs.
+//! Each call of document 01: turned away by refuse.rs, or run by the Rust in taken.rs. With a stride,
+//! the same on the corners of the buffers.
 
 use crate::arith;
 use crate::note::{self, Notes};
@@ -6,6 +7,7 @@ use crate::record::{Record, Value};
 use crate::refuse::{self, MOST_ROWS, Passed};
 use crate::sheet;
 use crate::shim::*;
+use crate::stride;
 use crate::taken::jacobi::JacobiRotation;
 use crate::taken::{eigen, evd, householder, leaves, schur_swap};
 
@@ -63,6 +65,7 @@ fn run(case: &Record) -> Record {
         "evd_from_real_schur" => vectors(case),
         "column" => column(case),
         "sheet" => Record::new(case.call).with("text", Value::Bytes(sheet::run(case.bytes("text")))),
+        call if stride::taken_by(call) => strided(case),
         other => unreachable!("no call {other}"),
     }
 }
@@ -177,4 +180,73 @@ fn column(case: &Record) -> Record {
         Err(_) => &[],
     };
     Record::new(case.call).list("part", part.to_vec())
+}
+
+/// The corners copied out, worked as the base call does, and copied back into the rows below n.
+fn strided(case: &Record) -> Record {
+    match refuse::strided(case.n("n"), case.n("ld"), case.lent("t"), case.lent("u"), case.lent("v")) {
+        Ok(()) => stride::put_back(case, run(&stride::corner(case))),
+        Err(number) => stride::refused(case, number, run),
+    }
+}
+
+#[cfg(test)]
+mod tests {
+    use super::*;
+    use crate::generate::{self, USUAL};
+
+    fn with_stride<'a>(list: &'a mut [f64], case: &Record) -> MatMut<'a, f64> {
+        MatMut::with_stride(list, case.n("n"), case.n("n"), case.n("ld"))
+    }
+
+    /// The Rust on views of the whole buffers, of an accepted case.
+    fn on_views(case: &Record) -> Vec<Vec<f64>> {
+        let list = |key| case.lent(key).unwrap_or(&[]).to_vec();
+        let [mut t, mut u, mut v] = ["t", "u", "v"].map(list);
+        if case.call == "evd_from_real_schur_ld" {
+            evd::evd_from_real_schur_imp(with_stride(&mut t, case).rb(), with_stride(&mut v, case), Par::Seq, PARAMS);
+            return vec![v];
+        }
+        let factor = if u.is_empty() { None } else { Some(with_stride(&mut u, case)) };
+        let form = with_stride(&mut t, case);
+        match case.call {
+            "schur_swap_ld" => drop(schur_swap(form, factor, case.n("j0"), case.n("n1"), case.n("n2"))),
+            _ => eigen::reorder_schur(form, factor, case.n("from"), case.n("to")),
+        }
+        vec![t, u]
+    }
+
+    /// The Rust's views take a stride: so lent the whole buffers, it gives what it gives on the
+    /// corners copied out, and leaves every bit beyond them.
+    #[test]
+    fn views_give_what_corners_give() {
+        for call in ["schur_swap_ld", "reorder_schur_ld", "evd_from_real_schur_ld"] {
+            let cases = (0..3000).map(|index| generate::case(call, 5, index, USUAL));
+            for case in cases.filter(|case| answer(case).0.n("answer") == 0) {
+                let keys = if call == "evd_from_real_schur_ld" { &["v"][..] } else { &["t", "u"] };
+                let worked = keys.iter().zip(on_views(&case));
+                let views = worked.fold(Record::new(call).num("answer", 0), |views, (key, list)| views.list(key, list));
+                let views = stride::checked(&case, views).settled();
+                let (corners, _) = answer(&case);
+                keys.iter().for_each(|key| assert_eq!(bits(views.l(key)), bits(corners.l(key)), "{case}"));
+                assert!(views.find("beyond").is_none(), "{case}");
+            }
+        }
+    }
+
+    fn bits(list: &[f64]) -> Vec<u64> {
+        list.iter().map(|x| x.to_bits()).collect()
+    }
+
+    /// With the stride n all is as without one, refusals too.
+    #[test]
+    fn stride_n_changes_nothing() {
+        for call in ["schur_swap", "reorder_schur", "block_values", "evd_from_real_schur", "column"] {
+            for index in 0..3000 {
+                let case = generate::case(call, 5, index, USUAL);
+                let (answer, strided) = (answer(&case).0, answer(&stride::of_n(&case)).0);
+                assert_eq!(answer.difference(&strided), None, "{case}");
+            }
+        }
+    }
 }

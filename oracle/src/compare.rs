@@ -67,7 +67,7 @@ fn compare(plan: &Plan, name: &'static str, progress: &mut Progress) -> io::Resu
             }
         };
         let (rust, notes) = calls::answer(&case);
-        tally.add(&rust, &notes);
+        tally.add(&case, &rust, &notes);
         if let Some(place) = rust.difference(&ours) {
             differing += 1;
             if differing <= SHOWN {

@@ -9,12 +9,14 @@ mod generate;
 mod note;
 mod picked;
 mod picked_forms;
+mod picked_strides;
 mod progress;
 mod record;
 mod refuse;
 mod scale;
 mod sheet;
 mod shim;
+mod stride;
 mod taken;
 mod tally;
 mod vectors;
@@ -152,7 +154,7 @@ fn write_cases(plan: &Plan) -> io::Result<bool> {
         for index in 0..plan.count {
             let case = generate::case(name, plan.seed, index, plan.sizes);
             let (answer, notes) = calls::answer(&case);
-            tally.add(&answer, &notes);
+            tally.add(&case, &answer, &notes);
             writeln!(out, "{case}")?;
         }
         eprintln!("{name}: {tally}");

@@ -5,21 +5,23 @@ use crate::generate::floats::next_up;
 use crate::generate::{self, Sizes};
 use crate::note::Notes;
 use crate::picked::ODD;
+use crate::picked_strides;
 use crate::record::{Record, Value};
+use crate::stride;
 
 const SEED: u64 = 2;
-const PAIRS: [(usize, usize); 4] = [(1, 1), (1, 2), (2, 1), (2, 2)];
+pub const PAIRS: [(usize, usize); 4] = [(1, 1), (1, 2), (2, 1), (2, 2)];
 /// Small numbers of rows, each of them looked at from both ends.
 const ROWS: [usize; 6] = [1, 2, 3, 4, 5, 8];
 /// A number of rows above the most.
-const TOO_MANY: usize = 65;
+pub const TOO_MANY: usize = 65;
 /// How many cases are drawn in search of what is asked for.
 const TRIES: u64 = 20_000;
 /// Exchanges of two 2-blocks in four rows: three that decline above the bound by less than a tenth,
 /// three that do not, below it by less than a tenth.
 const NEAR: [u64; 6] = [0x41b2, 0x42b2, 0x42e4, 0x3ae, 0x219e, 0x2ff2];
 /// A position outside every form.
-const OUTSIDE: usize = 70;
+pub const OUTSIDE: usize = 70;
 
 /// The cases of a call; of most, none.
 pub fn picked(call: &'static str) -> Vec<Record> {
@@ -29,7 +31,7 @@ pub fn picked(call: &'static str) -> Vec<Record> {
         "block_values" => values(),
         "evd_from_real_schur" => vectors(),
         "column" => columns(),
-        _ => Vec::new(),
+        _ => picked_strides::picked(call),
     }
 }
 
@@ -42,7 +44,7 @@ pub fn later(call: &'static str) -> Vec<Record> {
 
 /// A form whose blocks have the sizes: each 2-block a complex pair, no two diagonal numbers of
 /// neighbours equal, all numbers above the diagonal there.
-fn form(sizes: &[usize]) -> Vec<f64> {
+pub fn form(sizes: &[usize]) -> Vec<f64> {
     let n: usize = sizes.iter().sum();
     let mut t = vec![0.0; n * n];
     for (i, j) in (0..n).flat_map(|j| (0..j).map(move |i| (i, j))) {
@@ -67,14 +69,14 @@ fn rows(t: &[f64]) -> usize {
 }
 
 /// Blocks of size 2, and one of size 1 at the end if the rows are odd.
-fn twos(n: usize) -> Vec<usize> {
+pub fn twos(n: usize) -> Vec<usize> {
     let mut sizes = vec![2; n / 2];
     sizes.resize((n + 1) / 2, 1);
     sizes
 }
 
 /// Blocks of sizes 1 and 2 by turns.
-fn turns(n: usize) -> Vec<usize> {
+pub fn turns(n: usize) -> Vec<usize> {
     let mut sizes: Vec<usize> = (0..).map(|k| 1 + k % 2).take(2 * n / 3).collect();
     sizes.resize(sizes.len() + n - sizes.iter().sum::<usize>(), 1);
     sizes
@@ -101,23 +103,23 @@ fn odd_forms(sizes: &[usize]) -> Vec<Vec<f64>> {
     places.flat_map(|p| ODD.map(|x| with(p, x))).collect()
 }
 
-fn unit(n: usize) -> Vec<f64> {
+pub fn unit(n: usize) -> Vec<f64> {
     (0..n * n).map(|k| if k % n == k / n { 1.0 } else { 0.0 }).collect()
 }
 
 // ---- drawn cases
 
-fn number(case: &Record) -> Option<usize> {
+pub fn number(case: &Record) -> Option<usize> {
     let (answer, _) = calls::answer(case);
     answer.find("answer").map(|_| answer.n("answer"))
 }
 
-fn accepted(case: &Record) -> bool {
+pub fn accepted(case: &Record) -> bool {
     number(case) == Some(0)
 }
 
 /// The first cases of n rows that are not turned away and are wanted.
-fn drawn(call: &'static str, n: usize, count: usize, wanted: impl Fn(&Record, &Notes) -> bool) -> Vec<Record> {
+pub fn drawn(call: &'static str, n: usize, count: usize, wanted: impl Fn(&Record, &Notes) -> bool) -> Vec<Record> {
     let cases = (0..TRIES).filter_map(|index| generate::stored(call, SEED, index, Sizes { least: n, most: n }));
     let fits = |case: &Record| {
         let (answer, notes) = calls::answer(case);
@@ -129,25 +131,18 @@ fn drawn(call: &'static str, n: usize, count: usize, wanted: impl Fn(&Record, &N
     found
 }
 
-fn near() -> Vec<Record> {
+pub fn near() -> Vec<Record> {
     let rows = Sizes { least: 4, most: 4 };
     NEAR.iter().map(|index| generate::case("schur_swap", SEED, *index, rows)).collect()
 }
 
 /// So many numbers of every class, as drawn for n rows.
-fn content(n: usize, count: usize) -> Vec<f64> {
+pub fn content(n: usize, count: usize) -> Vec<f64> {
     let lists = drawn("column", n, ((count + n * n - 1) / (n * n)).max(1), |c, _| c.l("v").len() == n * n);
     lists.iter().flat_map(|case| case.l("v").to_vec()).take(count).collect()
 }
 
-fn number_set(mut case: Record, key: &str, to: usize) -> Record {
-    if let Some(Value::Num(x)) = case.find_mut(key) {
-        *x = to;
-    }
-    case
-}
-
-fn list_set(mut case: Record, key: &str, change: impl Fn(&mut Vec<f64>)) -> Record {
+pub fn list_set(mut case: Record, key: &str, change: impl Fn(&mut Vec<f64>)) -> Record {
     if let Some(Value::List(list)) = case.find_mut(key) {
         change(list);
     }
@@ -157,62 +152,63 @@ fn list_set(mut case: Record, key: &str, change: impl Fn(&mut Vec<f64>)) -> Reco
 // ---- refusals, of forms with four rows
 
 /// The case turned away by the line, and by no earlier one.
-fn spoilt(case: Record, line: usize) -> Record {
-    let n = 4;
-    match (line, case.call) {
-        (2, _) => number_set(case, "n", TOO_MANY),
+pub fn spoilt(case: Record, line: usize) -> Record {
+    let ld = stride::of(&case);
+    match (line, stride::base_of(case.call)) {
+        (17, _) => case.num_set("ld", stride::MOST + 1),
+        (2, _) => case.num_set("n", TOO_MANY),
         (3, _) => list_set(case, "t", |t| t.push(7.0)),
         (4, "block_values") => list_set(case, "im", |im| im.push(7.0)),
         (4, "evd_from_real_schur" | "column") => list_set(case, "v", |v| v.push(7.0)),
         (4, _) => list_set(case, "u", |u| u.truncate(3)),
         (5, _) => list_set(case, "t", |t| t[3] = -1.0),
-        (6, _) => list_set(case, "t", |t| (t[1], t[2 + n]) = (-0.5, 3.0)),
-        (7, "reorder_schur") => number_set(case, "to", OUTSIDE),
-        (7, "column") => number_set(case, "col", OUTSIDE),
-        (7, _) => number_set(case, "j0", OUTSIDE),
-        (8, _) => number_set(case, "n1", 3),
-        (9, _) => number_set(number_set(case, "j0", 1), "n2", 2),
-        _ => number_set(case, "j0", 1),
+        (6, _) => list_set(case, "t", |t| (t[1], t[2 + ld]) = (-0.5, 3.0)),
+        (7, "reorder_schur") => case.num_set("to", OUTSIDE),
+        (7, "column") => case.num_set("col", OUTSIDE),
+        (7, _) => case.num_set("j0", OUTSIDE),
+        (8, _) => case.num_set("n1", 3),
+        (9, _) => case.num_set("j0", 1).num_set("n2", 2),
+        _ => case.num_set("j0", 1),
     }
 }
 
-/// Each line alone and each pair of them.
-fn refusals(base: &Record, lines: &[usize]) -> Vec<Record> {
+/// Each line alone and each pair of them; the lines in the order in which they are tested.
+pub fn refusals(base: &Record, lines: &[usize]) -> Vec<Record> {
     let alone = lines.iter().map(|line| spoilt(base.clone(), *line));
-    let pairs = lines.iter().flat_map(|a| lines.iter().filter(move |b| a < b).map(move |b| (*a, *b)));
+    let pairs = (0..lines.len()).flat_map(|k| lines[k + 1..].iter().map(move |b| (lines[k], *b)));
     alone.chain(pairs.map(|(a, b)| spoilt(spoilt(base.clone(), b), a))).collect()
 }
 
 /// A list with lengths around the right one.
-fn lengths(base: &Record, key: &str) -> Vec<Record> {
+pub fn lengths(base: &Record, key: &str) -> Vec<Record> {
     let right = base.l(key).len();
     let others = [1, right - 1, right + 1, 2 * right];
     others.iter().map(|len| list_set(base.clone(), key, |list| list.resize(*len, 7.0))).collect()
 }
 
 /// Lines 5 and 6 at each place and by numbers of several kinds; a minus zero is let through.
-fn entries(base: &Record) -> Vec<Record> {
-    let n = base.n("n");
+pub fn entries(base: &Record) -> Vec<Record> {
+    let (n, ld) = (base.n("n"), stride::of(base));
     let at = |p: usize, x: f64| list_set(base.clone(), "t", |t| t[p] = x);
-    let below = (0..n).flat_map(|j| (j + 2..n).map(move |i| i + n * j));
+    let below = (0..n).flat_map(|j| (j + 2..n).map(move |i| i + ld * j));
     let mut cases: Vec<Record> =
         below.flat_map(|p| [1.0, -5e-324, f64::NAN, f64::NEG_INFINITY, -0.0].map(|x| at(p, x))).collect();
     for i in 2..n {
         for (x, y) in [(1.0, 1.0), (f64::NAN, 5e-324), (-0.0, 1.0), (1.0, -0.0)] {
-            cases.push(list_set(base.clone(), "t", |t| (t[i - 1 + n * (i - 2)], t[i + n * (i - 1)]) = (x, y)));
+            cases.push(list_set(base.clone(), "t", |t| (t[i - 1 + ld * (i - 2)], t[i + ld * (i - 1)]) = (x, y)));
         }
     }
     cases
 }
 
 /// No rows, too many by one or by far, with buffers of the right lengths where that is possible.
-fn sizes(base: &Record) -> Vec<Record> {
-    [0, 3, 5, TOO_MANY, 1 << 32, usize::MAX].iter().map(|n| number_set(base.clone(), "n", *n)).collect()
+pub fn sizes(base: &Record) -> Vec<Record> {
+    [0, 3, 5, TOO_MANY, 1 << 32, usize::MAX].iter().map(|n| base.clone().num_set("n", *n)).collect()
 }
 
 // ---- moves
 
-fn a_move(t: Vec<f64>, u: Vec<f64>, from: usize, to: usize) -> Record {
+pub fn a_move(t: Vec<f64>, u: Vec<f64>, from: usize, to: usize) -> Record {
     let n = rows(&t);
     Record::new("reorder_schur").num("n", n).list("t", t).list("u", u).num("from", from).num("to", to)
 }
@@ -224,9 +220,7 @@ fn moves() -> Vec<Record> {
         for none in [true, false] {
             let ends = [(0, n - 1), (n - 1, 0), (n - 1, n - 1)];
             let forms = drawn(call, n, ends.len(), |c, _| c.l("u").is_empty() == none);
-            cases.extend(
-                forms.into_iter().zip(ends).map(|(c, (from, to))| number_set(number_set(c, "from", from), "to", to)),
-            );
+            cases.extend(forms.into_iter().zip(ends).map(|(c, (from, to))| c.num_set("from", from).num_set("to", to)));
         }
     }
     for (n1, n2) in PAIRS {
@@ -265,8 +259,8 @@ fn moves() -> Vec<Record> {
     cases.extend(sizes(&base));
     cases.extend(lengths(&base, "t").into_iter().chain(lengths(&base, "u")).chain(entries(&base)));
     for position in [3, 4, 5, usize::MAX] {
-        cases.push(number_set(base.clone(), "from", position));
-        cases.push(number_set(base.clone(), "to", position));
+        cases.push(base.clone().num_set("from", position));
+        cases.push(base.clone().num_set("to", position));
     }
     cases.push(a_move(Vec::new(), Vec::new(), 0, 0));
     cases.push(a_move(form(&twos(33)), content(33, 33 * 33), 0, 32));
@@ -280,13 +274,13 @@ fn moves() -> Vec<Record> {
 
 // ---- exchanges
 
-fn an_exchange(t: Vec<f64>, u: Vec<f64>, j0: usize, n1: usize, n2: usize) -> Record {
+pub fn an_exchange(t: Vec<f64>, u: Vec<f64>, j0: usize, n1: usize, n2: usize) -> Record {
     let n = rows(&t);
     Record::new("schur_swap").num("n", n).list("t", t).list("u", u).num("j0", j0).num("n1", n1).num("n2", n2)
 }
 
-fn at(case: Record, j0: usize, n1: usize, n2: usize) -> Record {
-    number_set(number_set(number_set(case, "j0", j0), "n1", n1), "n2", n2)
+pub fn at(case: Record, j0: usize, n1: usize, n2: usize) -> Record {
+    case.num_set("j0", j0).num_set("n1", n1).num_set("n2", n2)
 }
 
 fn exchanges() -> Vec<Record> {
@@ -350,7 +344,7 @@ fn exchanges() -> Vec<Record> {
 /// Exchanges of two rows with two below them, with the swaps that they count: both pairs hold; the
 /// first is parted, then the second; one of them parted and the other splits on the way; both
 /// parted. A pair that splits has the rows (1, 2) and (3, 4), and so two real values.
-fn counted() -> Vec<(Record, usize)> {
+pub fn counted() -> Vec<(Record, usize)> {
     let splitting = |sizes: &[usize], i: usize| {
         let mut t = form(sizes);
         for (p, x) in [0, 1, 4, 5].iter().zip([1.0, 3.0, 2.0, 4.0]) {
@@ -371,7 +365,7 @@ fn counted() -> Vec<(Record, usize)> {
 
 // ---- vectors and values
 
-fn of_form(call: &'static str, t: Vec<f64>) -> Record {
+pub fn of_form(call: &'static str, t: Vec<f64>) -> Record {
     let n = rows(&t);
     let case = Record::new(call).num("n", n).list("t", t);
     if call == "evd_from_real_schur" {
@@ -446,7 +440,7 @@ fn values() -> Vec<Record> {
 
 // ---- columns
 
-fn a_column(n: usize, col: usize) -> Record {
+pub fn a_column(n: usize, col: usize) -> Record {
     Record::new("column").num("n", n).list("v", content(n.max(1), n * n)).num("col", col)
 }
 
@@ -455,7 +449,7 @@ fn columns() -> Vec<Record> {
     let base = a_column(4, 2);
     cases.extend(refusals(&base, &[2, 4, 7]));
     cases.extend(sizes(&base).into_iter().chain(lengths(&base, "v")));
-    cases.extend([3, 4, 5, usize::MAX].map(|col| number_set(base.clone(), "col", col)));
+    cases.extend([3, 4, 5, usize::MAX].map(|col| base.clone().num_set("col", col)));
     cases.extend(
         [(0, 0), (33, 32), (33, 33), (63, 31), (64, 63), (64, 64), (TOO_MANY, 0)].map(|(n, col)| a_column(n, col)),
     );
@@ -466,7 +460,7 @@ fn columns() -> Vec<Record> {
 mod tests {
     use super::*;
 
-    /// A pair of lines is told by the first, a line alone by itself.
+    /// A pair of lines is told by the first, a line alone by itself; with a stride as well.
     #[test]
     fn refusals_are_in_order() {
         let bases = [
@@ -475,14 +469,19 @@ mod tests {
             (of_form("block_values", form(&[2, 1, 1])), vec![2, 3, 4, 5, 6]),
             (of_form("evd_from_real_schur", form(&[2, 1, 1])), vec![2, 3, 4, 5, 6]),
         ];
-        for (base, lines) in bases {
-            assert_eq!(number(&base), Some(0));
-            let alone = lines.iter().copied();
-            let firsts = lines.iter().flat_map(|a| lines.iter().filter(move |b| a < *b).map(move |_| *a));
-            let expected: Vec<Option<usize>> = alone.chain(firsts).map(Some).collect();
-            let told: Vec<Option<usize>> = refusals(&base, &lines).iter().map(number).collect();
-            assert_eq!(told, expected, "{}", base.call);
+        for (base, mut lines) in bases {
+            told_in_order(&base, &lines);
+            lines.insert(1, 17);
+            told_in_order(&stride::spread(&base, 6, |_, _, _| f64::NAN), &lines);
         }
+    }
+
+    fn told_in_order(base: &Record, lines: &[usize]) {
+        assert_eq!(number(base), Some(0));
+        let firsts = lines.iter().enumerate().flat_map(|(k, line)| vec![*line; lines.len() - 1 - k]);
+        let expected: Vec<Option<usize>> = lines.iter().copied().chain(firsts).map(Some).collect();
+        let told: Vec<Option<usize>> = refusals(base, lines).iter().map(number).collect();
+        assert_eq!(told, expected, "{}", base.call);
     }
 
     #[test]

@@ -68,6 +68,35 @@ pub const CALLS: &[Call] = &[
     call("evd_from_real_schur", &[("n", Kind::Num), ("t", Kind::List), ("v", Kind::List)]),
     call("column", &[("n", Kind::Num), ("v", Kind::List), ("col", Kind::Num)]),
     call("sheet", &[("text", Kind::Bytes)]),
+    call(
+        "schur_swap_ld",
+        &[
+            ("n", Kind::Num),
+            ("ld", Kind::Num),
+            ("t", Kind::List),
+            ("u", Kind::List),
+            ("j0", Kind::Num),
+            ("n1", Kind::Num),
+            ("n2", Kind::Num),
+        ],
+    ),
+    call(
+        "reorder_schur_ld",
+        &[
+            ("n", Kind::Num),
+            ("ld", Kind::Num),
+            ("t", Kind::List),
+            ("u", Kind::List),
+            ("from", Kind::Num),
+            ("to", Kind::Num),
+        ],
+    ),
+    call(
+        "block_values_ld",
+        &[("n", Kind::Num), ("ld", Kind::Num), ("t", Kind::List), ("re", Kind::List), ("im", Kind::List)],
+    ),
+    call("evd_from_real_schur_ld", &[("n", Kind::Num), ("ld", Kind::Num), ("t", Kind::List), ("v", Kind::List)]),
+    call("column_ld", &[("n", Kind::Num), ("ld", Kind::Num), ("v", Kind::List), ("col", Kind::Num)]),
 ];
 
 pub fn find(name: &str) -> Option<&'static Call> {
@@ -111,6 +140,14 @@ impl Record {
         self.fields.iter_mut().find(|f| f.0 == key).map(|f| &mut f.1)
     }
 
+    /// The record with a number changed, if it has it.
+    pub fn num_set(mut self, key: &str, to: usize) -> Record {
+        if let Some(Value::Num(x)) = self.find_mut(key) {
+            *x = to;
+        }
+        self
+    }
+
     pub fn f(&self, key: &str) -> f64 {
         match self.find(key) {
             Some(Value::Float(x)) => *x,
@@ -130,6 +167,11 @@ impl Record {
             Some(Value::List(x)) => x,
             other => panic!("{}: {key} is {other:?}, not a list", self.call),
         }
+    }
+
+    /// A list, if the case has it.
+    pub fn lent(&self, key: &str) -> Option<&[f64]> {
+        self.find(key).map(|_| self.l(key))
     }
 
     pub fn bytes(&self, key: &str) -> &[u8] {

@@ -1,5 +1,7 @@
-//! Lines 2 to 11 of document 01's list, in its order: when a call is turned away.
-//! Line 1, on the program's text, is in sheet.rs.
+//! Lines 2 to 11 of document 01's list, in its order: when a call is turned away. With a stride, line
+//! 17 comes after 2. Line 1, on the program's text, is in sheet.rs.
+
+use crate::stride;
 
 /// `Err` with the number of the first line that applies.
 pub type Passed = Result<(), usize>;
@@ -19,12 +21,17 @@ fn size(n: usize, most: usize) -> Passed {
     line(2, n == 0 || n > most)
 }
 
-fn square(n: usize, t: &[f64]) -> Passed {
-    line(3, t.len() != n * n)
+/// The lengths of a form, a factor and vectors, of a stride and n that pass.
+fn square(ld: usize, n: usize, t: &[f64]) -> Passed {
+    line(3, t.len() != ld * n)
 }
 
-fn factor(n: usize, u: &[f64]) -> Passed {
-    line(4, !u.is_empty() && u.len() != n * n)
+fn factor(ld: usize, n: usize, u: &[f64]) -> Passed {
+    line(4, !u.is_empty() && u.len() != ld * n)
+}
+
+fn whole(ld: usize, n: usize, v: &[f64]) -> Passed {
+    line(4, v.len() != ld * n)
 }
 
 fn form(n: usize, t: &[f64]) -> Passed {
@@ -36,16 +43,16 @@ fn form(n: usize, t: &[f64]) -> Passed {
 /// What a move is turned away for; the program allows fewer rows.
 pub fn reorder(most: usize, n: usize, t: &[f64], u: &[f64], from: usize, to: usize) -> Passed {
     size(n, most)?;
-    square(n, t)?;
-    factor(n, u)?;
+    square(n, n, t)?;
+    factor(n, n, u)?;
     form(n, t)?;
     line(7, from >= n || to >= n)
 }
 
 pub fn exchange(n: usize, t: &[f64], u: &[f64], j0: usize, n1: usize, n2: usize) -> Passed {
     size(n, MOST_ROWS)?;
-    square(n, t)?;
-    factor(n, u)?;
+    square(n, n, t)?;
+    factor(n, n, u)?;
     form(n, t)?;
     line(7, j0 >= n)?;
     line(8, !matches!(n1, 1 | 2) || !matches!(n2, 1 | 2))?;
@@ -56,24 +63,34 @@ pub fn exchange(n: usize, t: &[f64], u: &[f64], j0: usize, n1: usize, n2: usize)
 
 pub fn block_values(n: usize, t: &[f64], re: &[f64], im: &[f64]) -> Passed {
     size(n, MOST_ROWS)?;
-    square(n, t)?;
+    square(n, n, t)?;
     line(4, re.len() != n || im.len() != n)?;
     form(n, t)
 }
 
 pub fn vectors(n: usize, t: &[f64], v: &[f64]) -> Passed {
     size(n, MOST_ROWS)?;
-    square(n, t)?;
-    line(4, v.len() != n * n)?;
+    square(n, n, t)?;
+    whole(n, n, v)?;
     form(n, t)
 }
 
 pub fn column(n: usize, v: &[f64], col: usize) -> Passed {
     size(n, MOST_ROWS)?;
-    line(4, v.len() != n * n)?;
+    whole(n, n, v)?;
     line(7, col >= n)
 }
 
 pub fn reflection(tail: &[f64]) -> Passed {
     line(11, !matches!(tail.len(), 1..=3))
+}
+
+/// Lines 2, 17, 3 and 4 on the buffers with a stride that a call is given; what comes after them
+/// speaks of the corner.
+pub fn strided(n: usize, ld: usize, form: Option<&[f64]>, u: Option<&[f64]>, vectors: Option<&[f64]>) -> Passed {
+    size(n, MOST_ROWS)?;
+    line(17, ld < n || ld > stride::MOST)?;
+    form.map_or(Ok(()), |t| square(ld, n, t))?;
+    u.map_or(Ok(()), |u| factor(ld, n, u))?;
+    vectors.map_or(Ok(()), |v| whole(ld, n, v))
 }

@@ -1,9 +1,9 @@
-//! Counts over many cases: how many, how many of each answer, how many split or declined, and of
-//! exchanges how many counted so many swaps.
+//! Counts over many cases: how many, how many of each answer, how many split or declined, of
+//! exchanges how many counted so many swaps, and which strides and numbers beyond the corners there were.
 
 use crate::note::Notes;
-use crate::record::Record;
-use crate::record::Value;
+use crate::record::{Record, Value};
+use crate::stride;
 use std::collections::BTreeMap;
 use std::fmt;
 
@@ -15,18 +15,24 @@ pub struct Tally {
     pub declined: u64,
     /// Accepted exchanges by their swaps.
     pub exchanges: BTreeMap<usize, u64>,
+    /// Cases with a stride by what `stride::classes` tells.
+    pub classes: BTreeMap<&'static str, u64>,
 }
 
 impl Tally {
-    pub fn add(&mut self, answer: &Record, notes: &Notes) {
+    pub fn add(&mut self, case: &Record, answer: &Record, notes: &Notes) {
         self.cases += 1;
         self.split += u64::from(notes.splits > 0);
         self.declined += u64::from(notes.declined > 0);
         if let Some(number) = number_of(answer) {
             *self.answers.entry(number).or_default() += 1;
-            if answer.call == "schur_swap" && number == 0 {
+            if stride::base_of(answer.call) == "schur_swap" && number == 0 {
                 *self.exchanges.entry(notes.swaps).or_default() += 1;
             }
+        }
+        if stride::taken_by(case.call) {
+            let classes = stride::classes(case, answer);
+            classes.into_iter().for_each(|class| *self.classes.entry(class).or_default() += 1);
         }
     }
 }
@@ -49,12 +55,16 @@ impl fmt::Display for Tally {
         if self.split + self.declined > 0 {
             write!(f, ", {} with a split, {} with a decline", self.split, self.declined)?;
         }
-        for (name, counts) in [("answers", &self.answers), ("swaps", &self.exchanges)] {
-            if !counts.is_empty() {
-                let counts: Vec<String> = counts.iter().map(|(number, count)| format!("{number}: {count}")).collect();
-                write!(f, ", {name} {{{}}}", counts.join(", "))?;
-            }
-        }
-        Ok(())
+        write_counts(f, "answers", &self.answers)?;
+        write_counts(f, "swaps", &self.exchanges)?;
+        write_counts(f, "with", &self.classes)
     }
+}
+
+fn write_counts<K: fmt::Display>(f: &mut fmt::Formatter<'_>, name: &str, counts: &BTreeMap<K, u64>) -> fmt::Result {
+    if counts.is_empty() {
+        return Ok(());
+    }
+    let counts: Vec<String> = counts.iter().map(|(key, count)| format!("{key}: {count}")).collect();
+    write!(f, ", {name} {{{}}}", counts.join(", "))
 }

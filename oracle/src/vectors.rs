@@ -2,13 +2,14 @@
 //! number a word of 16 hexadecimal digits, single spaces between, the given numbers first and the
 //! expected ones after them, always the same count for a call. README.md lists the words.
 
-use crate::calls::{self, EXCHANGED, MOVED};
+use crate::calls;
 use crate::fault;
 use crate::generate::floats::{EDGES, PATTERNS};
 use crate::generate::{self, USUAL};
 use crate::picked::picked;
 use crate::picked_forms::later;
 use crate::record::{Kind, Record, Value, find};
+use crate::stride;
 use std::io::{self, Write};
 
 /// The calls that have stored vectors, and how many random cases follow the patterns.
@@ -34,12 +35,18 @@ const STORED: &[(&str, u64)] = &[
     ("block_values", 60),
     ("evd_from_real_schur", 60),
     ("column", 60),
+    ("schur_swap_ld", 60),
+    ("reorder_schur_ld", 60),
+    ("block_values_ld", 60),
+    ("evd_from_real_schur_ld", 60),
+    ("column_ld", 60),
 ];
 
 const SEED: u64 = 1;
 const NORM_PLACES: usize = 6;
 const TAIL_PLACES: usize = 5;
 const LONGEST: usize = (USUAL.most + 1) * (USUAL.most + 1);
+const LONGEST_WITH_STRIDE: usize = 72;
 
 /// How many vectors to write.
 pub struct Extent {
@@ -107,10 +114,11 @@ fn cases(name: &str, random: u64, extent: &Extent) -> Vec<Record> {
     cases
 }
 
-/// No list of a stored line is longer than one row more than the usual makes it.
+/// No list of a random line is longer than one row more than the usual makes it; with a stride, than
+/// six rows of twelve.
 fn storable(case: &Record) -> bool {
-    let short = |value: &Value| if let Value::List(list) = value { list.len() <= LONGEST } else { true };
-    case.fields.iter().all(|(_, value)| short(value))
+    let most = if stride::taken_by(case.call) { LONGEST_WITH_STRIDE } else { LONGEST };
+    lists(case).all(|list| list.len() <= most)
 }
 
 fn pairs(name: &'static str, extent: &Extent, case: impl Fn(Record, f64, f64) -> Record) -> Vec<Record> {
@@ -126,18 +134,22 @@ fn words(case: &Record) -> Vec<u64> {
             [vec![case.l("x").len() as u64], padded(case.l("x"), NORM_PLACES), vec![answer.f("r").to_bits()]].concat()
         }
         "make_householder_in_place" => reflection(case, &answer),
-        "schur_swap" => on_buffers(case, &answer, &["t", "u"], &["n", "j0", "n1", "n2"], EXCHANGED),
-        "reorder_schur" => on_buffers(case, &answer, &["t", "u"], &["n", "from", "to"], MOVED),
-        "block_values" => on_buffers(case, &answer, &["t", "re", "im"], &["n"], &[]),
-        "evd_from_real_schur" => on_buffers(case, &answer, &["t", "v"], &["n"], &[]),
-        "column" => on_buffers(case, &answer, &["v"], &["n", "col"], &[]),
-        "lasy2" => ["tl", "tr", "b"].iter().flat_map(|key| bits(case.l(key))).chain(floats(&answer)).collect(),
+        "lasy2" => lists(case).flat_map(bits).chain(floats(&answer)).collect(),
+        _ if case.find("n").is_some() => on_buffers(case, &answer),
         _ => floats(case).chain(floats(&answer)).collect(),
     }
 }
 
 fn floats(record: &Record) -> impl Iterator<Item = u64> + '_ {
     record.fields.iter().filter_map(|(_, value)| if let Value::Float(x) = value { Some(x.to_bits()) } else { None })
+}
+
+fn numbers(record: &Record) -> impl Iterator<Item = u64> + '_ {
+    record.fields.iter().filter_map(|(_, value)| if let Value::Num(x) = value { Some(*x as u64) } else { None })
+}
+
+fn lists(record: &Record) -> impl Iterator<Item = &[f64]> {
+    record.fields.iter().filter_map(|(_, value)| if let Value::List(list) = value { Some(&list[..]) } else { None })
 }
 
 fn bits(list: &[f64]) -> impl Iterator<Item = u64> + '_ {
@@ -152,16 +164,11 @@ fn padded(list: &[f64], places: usize) -> Vec<u64> {
 
 /// The lengths of the buffers, the numbers and the buffers; then the answer, its counts (zero words
 /// if it is turned away) and those buffers that the call may change, or the part that it hands back.
-fn on_buffers(case: &Record, answer: &Record, buffers: &[&str], numbers: &[&str], counts: &[&str]) -> Vec<u64> {
-    let mut words: Vec<u64> = buffers.iter().map(|key| case.l(key).len() as u64).collect();
-    words.extend(numbers.iter().map(|key| case.n(key) as u64));
-    words.extend(buffers.iter().flat_map(|key| bits(case.l(key))));
-    let told = ["answer"].iter().filter(|key| answer.find(key).is_some()).chain(counts);
-    words.extend(told.map(|key| answer.n(key) as u64));
-    for (_, value) in &answer.fields {
-        if let Value::List(list) = value {
-            words.extend(bits(list));
-        }
+fn on_buffers(case: &Record, answer: &Record) -> Vec<u64> {
+    let mut words: Vec<u64> = lists(case).map(|list| list.len() as u64).collect();
+    for record in [case, answer] {
+        words.extend(numbers(record));
+        words.extend(lists(record).flat_map(bits));
     }
     words
 }

@@ -1,4 +1,4 @@
-//! Document 01's worked values.
+//! Document 01's worked values, and the edges of a stride.
 
 use crate::calls;
 use crate::record::Record;
@@ -156,4 +156,24 @@ fn numbers_of_the_lines() {
         answer(&format!("make_householder_in_place head={} tail={}", words(&[1.0]), words(&vec![1.0; len]))).n("answer")
     };
     assert_eq!([tail(0), tail(1), tail(3), tail(4)], [11, 0, 0, 11]);
+}
+
+#[test]
+fn strides() {
+    let of = |n: usize, ld: usize, len: usize, from: usize| {
+        let t = words(&vec![0.0; len]);
+        answer(&format!("reorder_schur_ld n={n} ld={ld} t={t} u= from={from} to=0")).n("answer")
+    };
+    assert_eq!([of(0, 0, 0, 0), of(65, 128, 65 * 128, 0), of(65, 129, 0, 0), of(64, 128, 64 * 128, 63)], [2, 2, 2, 0]);
+    assert_eq!([of(3, 2, 6, 0), of(3, 3, 9, 0), of(1, 128, 128, 0), of(1, 129, 129, 0)], [17, 0, 0, 17]);
+    assert_eq!([of(4, usize::MAX, 16, 0), of(4, 1 << 62 | 5, 20, 0)], [17, 17]);
+    assert_eq!([of(3, 4, 9, 0), of(3, 4, 12, 2), of(3, 4, 12, 3)], [3, 0, 7]);
+    let values = |t: &[f64]| answer(&format!("block_values_ld n=1 ld=2 t={} re={1} im={1}", words(t), words(&[9.0])));
+    let single = values(&[3.0, f64::NAN]);
+    assert_eq!((single.n("answer"), single.l("re"), single.l("im")), (0, &[3.0][..], &[0.0][..]));
+    let part = |col: usize| {
+        let v = words(&[1.0, 2.0, 3.0, 4.0, 5.0, 6.0]);
+        answer(&format!("column_ld n=2 ld=3 v={v} col={col}")).l("part").to_vec()
+    };
+    assert_eq!([part(0), part(1), part(2)], [vec![1.0, 2.0], vec![4.0, 5.0], vec![]]);
 }

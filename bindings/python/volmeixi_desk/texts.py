@@ -21,6 +21,7 @@ ANSWERS = {
     0: "carried out",
     1: "the text is not laid out as a request",
     2: "the number of rows is 0, or above 64 (above 32 in the program)",
+    17: "the stride is below n, or above 128 (in the program it is n)",
     3: "the form has not n times n numbers",
     4: "a further buffer has the wrong length: a factor needs n times n numbers, or none",
     5: "an entry more than one row below the diagonal is not zero",

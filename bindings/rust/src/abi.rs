@@ -44,6 +44,7 @@ extern "C" {
     pub fn vx_lasy2(tl: &[f64; 4], tr: &[f64; 4], b: &[f64; 4], x: &mut [f64; 4], scale: &mut f64);
     pub fn vx_schur_swap(
         n: usize,
+        ld: usize,
         t: *mut f64,
         t_len: usize,
         u: *mut f64,
@@ -56,6 +57,7 @@ extern "C" {
     ) -> usize;
     pub fn vx_reorder_schur(
         n: usize,
+        ld: usize,
         t: *mut f64,
         t_len: usize,
         u: *mut f64,
@@ -68,6 +70,7 @@ extern "C" {
     ) -> usize;
     pub fn vx_block_values(
         n: usize,
+        ld: usize,
         t: *const f64,
         t_len: usize,
         re: *mut f64,
@@ -75,5 +78,6 @@ extern "C" {
         im: *mut f64,
         im_len: usize,
     ) -> usize;
-    pub fn vx_evd_from_real_schur(n: usize, t: *const f64, t_len: usize, v: *mut f64, v_len: usize) -> usize;
+    pub fn vx_evd_from_real_schur(n: usize, ld: usize, t: *const f64, t_len: usize, v: *mut f64, v_len: usize)
+    -> usize;
 }

@@ -3,8 +3,12 @@
 //! A form is n rows by n columns of f64, column after column: row i, column j stands at i + n × j.
 //! Rows and columns count from 0; n is 1 to 64. A 2-block stands where the entry just below the
 //! diagonal, at (j + 1, j), is not zero (a NaN is not zero, minus zero is); all other rows are
-//! 1-blocks. A factor has the same layout. No number of a form is refused: NaN, infinities and
-//! subnormals are worked with.
+//! 1-blocks. A factor and vectors have the same layout. No number of a form is refused: NaN,
+//! infinities and subnormals are worked with.
+//!
+//! For a form in the corner of a larger array, [`View`] and [`ViewMut`] have the same calls with a
+//! stride, where row i, column j stands at i + stride × j. One stride, n to 128, serves all buffers
+//! of a call.
 //!
 //! ```
 //! let mut t = [1.0, 0.0, 0.0, 0.0, 2.0, 0.0, 0.0, 0.0, 3.0];
@@ -26,6 +30,7 @@ mod moves;
 mod refusal;
 mod small;
 mod vectors;
+mod view;
 
 pub use arithmetic::{abs, abs1, abs2, fmax, fmin, hypot, mul_pow2, norm_l2, recip, sqrt};
 pub use blocks::{Eigenvalues, Standardised, Sylvester, lahqr_schur22, lasy2};
@@ -33,3 +38,4 @@ pub use moves::{Exchanged, Moved, reorder_schur, schur_swap};
 pub use refusal::Refusal;
 pub use small::{JacobiRotation, Reflection, RotationWith, adjoint, apply, make_householder_in_place, rotg};
 pub use vectors::{block_values, column, evd_from_real_schur};
+pub use view::{View, ViewMut};

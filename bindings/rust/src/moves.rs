@@ -3,8 +3,8 @@
 //! A swap of two 2-blocks may decline: they stay in place (and are standardised), and a move goes on
 //! as if they had been exchanged.
 
-use crate::Refusal;
 use crate::abi;
+use crate::{Refusal, ViewMut};
 
 /// What a move did.
 #[derive(Clone, Copy, Debug, PartialEq, Eq)]
@@ -28,7 +28,8 @@ pub struct Exchanged {
 
 /// Moves the block in row `from` of the form t to row `to`, by exchanges of neighbouring blocks, and
 /// applies the same rotations and reflections to the columns of the factor u. A position inside a
-/// 2-block means the block's first row. An empty factor is none.
+/// 2-block means the block's first row. An empty factor is none. Both have n × n numbers;
+/// [`ViewMut::reorder_schur`] takes a stride.
 ///
 /// Refused by, in this order, [`Refusal::Rows`], [`FormLength`](Refusal::FormLength),
 /// [`BufferLength`](Refusal::BufferLength) (the factor's), [`DeepEntry`](Refusal::DeepEntry),
@@ -44,24 +45,7 @@ pub struct Exchanged {
 /// # Ok::<(), volmeixi::Refusal>(())
 /// ```
 pub fn reorder_schur(n: usize, t: &mut [f64], u: Option<&mut [f64]>, from: usize, to: usize) -> Result<Moved, Refusal> {
-    let u = u.unwrap_or_default();
-    let mut moved = Moved { landed: 0, swaps: 0, declined: 0 };
-    // SAFETY: each pointer and length are those of a slice, and all is lent apart.
-    Refusal::of(unsafe {
-        abi::vx_reorder_schur(
-            n,
-            t.as_mut_ptr(),
-            t.len(),
-            u.as_mut_ptr(),
-            u.len(),
-            from,
-            to,
-            &mut moved.landed,
-            &mut moved.swaps,
-            &mut moved.declined,
-        )
-    })?;
-    Ok(moved)
+    ViewMut { n, stride: n, numbers: t }.reorder_schur(u, from, to)
 }
 
 /// Exchanges the n1 rows of the form t from row j0 on with the n2 rows below them; the factor is as
@@ -89,22 +73,64 @@ pub fn schur_swap(
     n1: usize,
     n2: usize,
 ) -> Result<Exchanged, Refusal> {
-    let u = u.unwrap_or_default();
-    let mut done = Exchanged { swaps: 0, declined: 0 };
-    // SAFETY: as in reorder_schur.
-    Refusal::of(unsafe {
-        abi::vx_schur_swap(
-            n,
-            t.as_mut_ptr(),
-            t.len(),
-            u.as_mut_ptr(),
-            u.len(),
-            j0,
-            n1,
-            n2,
-            &mut done.swaps,
-            &mut done.declined,
-        )
-    })?;
-    Ok(done)
+    ViewMut { n, stride: n, numbers: t }.schur_swap(u, j0, n1, n2)
+}
+
+impl ViewMut<'_> {
+    /// As [`reorder_schur()`], at the view's stride: the factor has stride × n numbers too, or none.
+    ///
+    /// Refused as there, and by [`Refusal::Stride`], which is tested after `Rows`.
+    pub fn reorder_schur(&mut self, u: Option<&mut [f64]>, from: usize, to: usize) -> Result<Moved, Refusal> {
+        let (t, u) = (&mut *self.numbers, u.unwrap_or_default());
+        let mut moved = Moved { landed: 0, swaps: 0, declined: 0 };
+        // SAFETY: each pointer and length are those of a slice, and all is lent apart.
+        Refusal::of(unsafe {
+            abi::vx_reorder_schur(
+                self.n,
+                self.stride,
+                t.as_mut_ptr(),
+                t.len(),
+                u.as_mut_ptr(),
+                u.len(),
+                from,
+                to,
+                &mut moved.landed,
+                &mut moved.swaps,
+                &mut moved.declined,
+            )
+        })?;
+        Ok(moved)
+    }
+
+    /// As [`schur_swap()`], at the view's stride: the factor has stride × n numbers too, or none.
+    ///
+    /// Refused as there, and by [`Refusal::Stride`], which is tested after `Rows`.
+    ///
+    /// ```
+    /// let mut t = [1.0, 0.0, f64::NAN, 0.0, 2.0, f64::NAN];
+    /// let done = volmeixi::ViewMut { n: 2, stride: 3, numbers: &mut t }.schur_swap(None, 0, 1, 1)?;
+    /// assert_eq!((done.swaps, t[0], t[4]), (1, 2.0, 1.0));
+    /// # Ok::<(), volmeixi::Refusal>(())
+    /// ```
+    pub fn schur_swap(&mut self, u: Option<&mut [f64]>, j0: usize, n1: usize, n2: usize) -> Result<Exchanged, Refusal> {
+        let (t, u) = (&mut *self.numbers, u.unwrap_or_default());
+        let mut done = Exchanged { swaps: 0, declined: 0 };
+        // SAFETY: as in reorder_schur.
+        Refusal::of(unsafe {
+            abi::vx_schur_swap(
+                self.n,
+                self.stride,
+                t.as_mut_ptr(),
+                t.len(),
+                u.as_mut_ptr(),
+                u.len(),
+                j0,
+                n1,
+                n2,
+                &mut done.swaps,
+                &mut done.declined,
+            )
+        })?;
+        Ok(done)
+    }
 }

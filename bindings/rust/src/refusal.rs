@@ -22,7 +22,9 @@ use std::fmt;
 pub enum Refusal {
     /// 2: n is 0 or above 64.
     Rows,
-    /// 3: the form's length is not n × n.
+    /// 17: the stride is below n or above 128.
+    Stride,
+    /// 3: the form's length is not stride × n.
     FormLength,
     /// 4: a further buffer's length is wrong.
     BufferLength,
@@ -46,16 +48,27 @@ pub enum Refusal {
 
 use Refusal::*;
 
-/// In the order of their numbers, from 2 on.
-const KNOWN: [Refusal; 10] =
-    [Rows, FormLength, BufferLength, DeepEntry, Touching, Position, BlockSize, PastEnd, Across, TailLength];
+/// The number of each line, in the order in which they are tested.
+const KNOWN: [(usize, Refusal); 11] = [
+    (2, Rows),
+    (17, Stride),
+    (3, FormLength),
+    (4, BufferLength),
+    (5, DeepEntry),
+    (6, Touching),
+    (7, Position),
+    (8, BlockSize),
+    (9, PastEnd),
+    (10, Across),
+    (11, TailLength),
+];
 
 impl Refusal {
     /// The line's number, as the calls for C give it.
     pub fn number(self) -> usize {
         match self {
             Unknown(number) => number,
-            known => KNOWN.iter().position(|line| *line == known).map_or(0, |k| k + 2),
+            known => KNOWN.iter().find(|(_, line)| *line == known).map_or(0, |(number, _)| *number),
         }
     }
 
@@ -63,7 +76,7 @@ impl Refusal {
     pub(crate) fn of(number: usize) -> Result<(), Refusal> {
         match number {
             0 => Ok(()),
-            _ => Err(number.checked_sub(2).and_then(|k| KNOWN.get(k)).copied().unwrap_or(Unknown(number))),
+            _ => Err(KNOWN.iter().find(|(k, _)| *k == number).map_or(Unknown(number), |(_, line)| *line)),
         }
     }
 }
@@ -72,10 +85,11 @@ impl fmt::Display for Refusal {
     fn fmt(&self, f: &mut fmt::Formatter<'_>) -> fmt::Result {
         f.write_str(match self {
             Rows => "the number of rows n is 0 or above 64",
-            FormLength => "the form's length is not n times n",
+            Stride => "the stride is below n or above 128",
+            FormLength => "the form's length is not the stride times n",
             BufferLength => {
-                "the length of a further buffer is wrong: a factor needs n times n numbers or none, \
-                 vectors n times n, each part of block values n"
+                "the length of a further buffer is wrong: a factor needs the stride times n numbers or none, \
+                 vectors the stride times n, each part of block values n"
             }
             DeepEntry => "the form has an entry more than one row below the diagonal that is not zero",
             Touching => "the form has two neighbouring entries just below the diagonal that are both not zero",
@@ -101,7 +115,7 @@ mod tests {
         for number in (1..20).chain(vec![usize::MAX]) {
             let refusal = Refusal::of(number).unwrap_err();
             assert_eq!(refusal.number(), number);
-            assert_eq!(matches!(refusal, Unknown(_)), !(2..=11).contains(&number));
+            assert_eq!(matches!(refusal, Unknown(_)), !matches!(number, 2..=11 | 17));
         }
         assert_eq!(Unknown(12).to_string(), "turned away with number 12, which is not known here");
     }

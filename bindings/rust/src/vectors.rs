@@ -1,7 +1,7 @@
 //! Block values and vectors.
 
-use crate::Refusal;
 use crate::abi;
+use crate::{Refusal, View};
 
 /// The values of the form's blocks, to re and im, n numbers each. A 1-block gives its diagonal
 /// number and +0; a 2-block its first diagonal number twice, with m and then -m, where m is the root
@@ -18,10 +18,7 @@ use crate::abi;
 /// # Ok::<(), volmeixi::Refusal>(())
 /// ```
 pub fn block_values(n: usize, t: &[f64], re: &mut [f64], im: &mut [f64]) -> Result<(), Refusal> {
-    // SAFETY: each pointer and length are those of a slice, and these are lent apart.
-    Refusal::of(unsafe {
-        abi::vx_block_values(n, t.as_ptr(), t.len(), re.as_mut_ptr(), re.len(), im.as_mut_ptr(), im.len())
-    })
+    View { n, stride: n, numbers: t }.block_values(re, im)
 }
 
 /// The vectors of the form, to v, n × n numbers, column after column. A 1-block's column is its
@@ -37,28 +34,84 @@ pub fn block_values(n: usize, t: &[f64], re: &mut [f64], im: &mut [f64]) -> Resu
 /// # Ok::<(), volmeixi::Refusal>(())
 /// ```
 pub fn evd_from_real_schur(n: usize, t: &[f64], v: &mut [f64]) -> Result<(), Refusal> {
-    // SAFETY: as in block_values.
-    Refusal::of(unsafe { abi::vx_evd_from_real_schur(n, t.as_ptr(), t.len(), v.as_mut_ptr(), v.len()) })
+    View { n, stride: n, numbers: t }.evd_from_real_schur(v)
 }
 
 /// Column `col` of the vectors v, as a part of them, n numbers long.
 ///
 /// Refused by, in this order, [`Refusal::Rows`], [`BufferLength`](Refusal::BufferLength),
-/// [`Position`](Refusal::Position). The archive has no call for it: this is Rust alone.
+/// [`Position`](Refusal::Position).
 ///
 /// ```
 /// assert_eq!(volmeixi::column(2, &[1.0, 2.0, 3.0, 4.0], 1)?, [3.0, 4.0]);
 /// # Ok::<(), volmeixi::Refusal>(())
 /// ```
 pub fn column(n: usize, v: &[f64], col: usize) -> Result<&[f64], Refusal> {
-    if !(1..=64).contains(&n) {
-        return Err(Refusal::Rows);
+    View { n, stride: n, numbers: v }.column(col)
+}
+
+impl<'a> View<'a> {
+    /// As [`block_values()`], of the form at the view's stride; re and im have n numbers each.
+    ///
+    /// Refused as there, and by [`Refusal::Stride`], which is tested after `Rows`.
+    pub fn block_values(self, re: &mut [f64], im: &mut [f64]) -> Result<(), Refusal> {
+        let t = self.numbers;
+        // SAFETY: each pointer and length are those of a slice, and these are lent apart.
+        Refusal::of(unsafe {
+            abi::vx_block_values(
+                self.n,
+                self.stride,
+                t.as_ptr(),
+                t.len(),
+                re.as_mut_ptr(),
+                re.len(),
+                im.as_mut_ptr(),
+                im.len(),
+            )
+        })
     }
-    if v.len() != n * n {
-        return Err(Refusal::BufferLength);
+
+    /// As [`evd_from_real_schur()`], of the form at the view's stride: v has stride × n numbers too.
+    /// What stands in its rows from n on stays.
+    ///
+    /// Refused as there, and by [`Refusal::Stride`], which is tested after `Rows`.
+    ///
+    /// ```
+    /// use volmeixi::View;
+    ///
+    /// let (t, mut v) = ([1.0, 0.0, 7.0, 1.0, 2.0, 7.0], [9.0; 6]);
+    /// View { n: 2, stride: 3, numbers: &t }.evd_from_real_schur(&mut v)?;
+    /// assert_eq!(View { n: 2, stride: 3, numbers: &v }.column(1)?, [1.0, 1.0]);
+    /// assert_eq!((v[2], v[5]), (9.0, 9.0));
+    /// # Ok::<(), volmeixi::Refusal>(())
+    /// ```
+    pub fn evd_from_real_schur(self, v: &mut [f64]) -> Result<(), Refusal> {
+        let t = self.numbers;
+        // SAFETY: as in block_values.
+        Refusal::of(unsafe {
+            abi::vx_evd_from_real_schur(self.n, self.stride, t.as_ptr(), t.len(), v.as_mut_ptr(), v.len())
+        })
     }
-    if n <= col {
-        return Err(Refusal::Position);
+
+    /// Column `col` of these vectors, as a part of their numbers, n long.
+    ///
+    /// Refused by, in this order, [`Refusal::Rows`], [`Stride`](Refusal::Stride),
+    /// [`BufferLength`](Refusal::BufferLength), [`Position`](Refusal::Position). The archive has no
+    /// call for it: this is Rust alone.
+    pub fn column(self, col: usize) -> Result<&'a [f64], Refusal> {
+        let View { n, stride, numbers } = self;
+        if !(1..=64).contains(&n) {
+            return Err(Refusal::Rows);
+        }
+        if !(n..=128).contains(&stride) {
+            return Err(Refusal::Stride);
+        }
+        if numbers.len() != stride * n {
+            return Err(Refusal::BufferLength);
+        }
+        if n <= col {
+            return Err(Refusal::Position);
+        }
+        Ok(&numbers[stride * col..stride * col + n])
     }
-    Ok(&v[n * col..n * col + n])
 }

@@ -1,9 +1,21 @@
-//! Document 01's worked values, every refusal, and that a refused call leaves its buffers.
+//! Document 01's worked values, every refusal, that a refused call leaves its buffers, and that at
+//! every stride a call gives what it gives without gaps and leaves the rows beyond.
 
 use volmeixi::*;
 
 /// The 2-block of rows (0, 1) and (-1, 0).
 const TURN: [f64; 4] = [0.0, -1.0, 1.0, 0.0];
+
+/// Rows with a pair among them, as in examples/slow-mode.txt.
+#[rustfmt::skip]
+const SIX: [f64; 36] = [
+    -3.0, 0.0, 0.0, 0.0, 0.0, 0.0,
+    0.5, -0.5, -1.5, 0.0, 0.0, 0.0,
+    -0.25, 2.0, -0.5, 0.0, 0.0, 0.0,
+    1.0, 0.375, 0.625, -1.25, 0.0, 0.0,
+    0.125, -0.5, 0.875, 0.5, -2.0, 0.0,
+    0.75, 0.25, -0.125, -0.75, 0.25, -0.0625,
+];
 
 fn same(x: f64, y: f64) {
     assert_eq!(x.to_bits(), y.to_bits(), "{x} is not {y}");
@@ -16,6 +28,13 @@ fn diagonal(numbers: &[f64]) -> Vec<f64> {
 
 fn bits(x: &[f64]) -> Vec<u64> {
     x.iter().map(|x| x.to_bits()).collect()
+}
+
+/// n rows at a stride; in the rows beyond stand numbers that no form could have there.
+fn spread(n: usize, stride: usize, rows: &[f64]) -> Vec<f64> {
+    let others = [f64::NAN, f64::INFINITY, 5e-324, -7.0, -0.0];
+    let at = |i, j| if i < n { rows[i + n * j] } else { others[(i + j) % 5] };
+    (0..stride * n).map(|k| at(k % stride, k / stride)).collect()
 }
 
 /// The refusal of a call on form and factor, both of which it must leave.
@@ -191,11 +210,117 @@ fn values_and_vectors_refused() {
     assert_eq!(column(2, &TURN, 2), Err(Refusal::Position));
 }
 
+/// What a call on SIX and the unit factor gives at any stride: the same, rows and answer, as without
+/// gaps, with a factor and without.
+fn at_a_stride<T: std::fmt::Debug + PartialEq>(call: impl Fn(&mut ViewMut, Option<&mut [f64]>) -> T) -> T {
+    let (mut t, mut u) = (SIX, diagonal(&[1.0; 6]));
+    let answer = call(&mut ViewMut { n: 6, stride: 6, numbers: &mut t }, Some(&mut u));
+    for stride in [6, 7, 12, 127, 128] {
+        let (mut wide_t, mut wide_u) = (spread(6, stride, &SIX), spread(6, stride, &diagonal(&[1.0; 6])));
+        let mut alone = wide_t.clone();
+        assert_eq!(call(&mut ViewMut { n: 6, stride, numbers: &mut wide_t }, Some(&mut wide_u)), answer);
+        assert_eq!(call(&mut ViewMut { n: 6, stride, numbers: &mut alone }, None), answer);
+        assert_eq!(bits(&wide_t), bits(&spread(6, stride, &t)));
+        assert_eq!(bits(&wide_u), bits(&spread(6, stride, &u)));
+        assert_eq!(bits(&alone), bits(&wide_t));
+    }
+    answer
+}
+
+#[test]
+fn moves_and_exchanges_at_a_stride() {
+    let moved = at_a_stride(|t, u| t.reorder_schur(u, 5, 0));
+    assert_eq!(moved, Ok(Moved { landed: 0, swaps: 4, declined: 0 }));
+    assert_eq!(reorder_schur(6, &mut SIX.clone(), None, 5, 0), moved);
+    let done = at_a_stride(|t, u| t.schur_swap(u, 1, 2, 1));
+    assert_eq!(done, Ok(Exchanged { swaps: 1, declined: 0 }));
+    assert_eq!(schur_swap(6, &mut SIX.clone(), None, 1, 2, 1), done);
+}
+
+#[test]
+fn values_and_vectors_at_a_stride() {
+    let (mut re, mut im, mut v) = ([9.0; 6], [9.0; 6], [9.0; 36]);
+    block_values(6, &SIX, &mut re, &mut im).unwrap();
+    evd_from_real_schur(6, &SIX, &mut v).unwrap();
+    for stride in [6, 7, 12, 127, 128] {
+        let mut wide_t = spread(6, stride, &SIX);
+        let form = ViewMut { n: 6, stride, numbers: &mut wide_t };
+        let (mut wide_re, mut wide_im) = ([9.0; 6], [9.0; 6]);
+        form.view().block_values(&mut wide_re, &mut wide_im).unwrap();
+        assert_eq!((bits(&wide_re), bits(&wide_im)), (bits(&re), bits(&im)));
+        let mut wide_v = spread(6, stride, &[9.0; 36]);
+        form.view().evd_from_real_schur(&mut wide_v).unwrap();
+        assert_eq!(bits(&wide_v), bits(&spread(6, stride, &v)));
+        for col in 0..6 {
+            assert_eq!(View { n: 6, stride, numbers: &wide_v }.column(col), column(6, &v, col));
+        }
+        assert_eq!(bits(&wide_t), bits(&spread(6, stride, &SIX)));
+    }
+}
+
+/// The refusal that all calls on views give, of buffers that they must leave. The lengths are the
+/// form's, that of the factor or vectors, and those of re and im.
+fn refused_by_all(n: usize, stride: usize, lengths: [usize; 4]) -> Refusal {
+    let [t_len, len, re_len, im_len] = lengths;
+    let (t, u) = (vec![0.0; t_len], vec![9.0; len]);
+    let refusal = refused(&t, &u, |t, u| ViewMut { n, stride, numbers: t }.reorder_schur(u, 0, 1));
+    assert_eq!(refused(&t, &u, |t, u| ViewMut { n, stride, numbers: t }.schur_swap(u, 0, 1, 1)), refusal);
+    let form = View { n, stride, numbers: &t };
+    assert_eq!(refused(&t, &u, |_, v| form.evd_from_real_schur(v.unwrap())), refusal);
+    let (re, im) = (vec![9.0; re_len], vec![9.0; im_len]);
+    assert_eq!(refused(&re, &im, |re, im| form.block_values(re, im.unwrap())), refusal);
+    refusal
+}
+
+#[test]
+fn strides_refused() {
+    use Refusal::*;
+    assert_eq!(refused_by_all(0, 129, [1; 4]), Rows);
+    assert_eq!(refused_by_all(65, 64, [1; 4]), Rows);
+    assert_eq!(refused_by_all(65, 129, [65 * 129, 65 * 129, 65, 65]), Rows);
+    assert_eq!(refused_by_all(3, 0, [0, 0, 3, 3]), Stride);
+    assert_eq!(refused_by_all(3, 2, [6, 6, 3, 3]), Stride);
+    assert_eq!(refused_by_all(3, 2, [9, 9, 3, 3]), Stride);
+    assert_eq!(refused_by_all(64, 129, [64 * 129, 64 * 129, 64, 64]), Stride);
+    assert_eq!(refused_by_all(3, usize::MAX, [1; 4]), Stride);
+    assert_eq!(refused_by_all(3, 4, [9, 9, 1, 1]), FormLength);
+    assert_eq!(refused_by_all(3, 4, [11, 12, 3, 3]), FormLength);
+    assert_eq!(refused_by_all(3, 4, [12, 9, 4, 3]), BufferLength);
+    assert_eq!(refused_by_all(3, 4, [12, 13, 3, 4]), BufferLength);
+
+    let column = |n, stride, len, col| View { n, stride, numbers: &vec![0.0; len] }.column(col).map(<[f64]>::len);
+    assert_eq!(column(65, 129, 1, 65), Err(Rows));
+    assert_eq!(column(3, 2, 1, 3), Err(Stride));
+    assert_eq!(column(3, usize::MAX, 1, 3), Err(Stride));
+    assert_eq!(column(3, 4, 9, 3), Err(BufferLength));
+    assert_eq!(column(3, 4, 12, 3), Err(Position));
+    assert_eq!(column(64, 129, 64 * 129, 0), Err(Stride));
+    assert_eq!(column(64, 128, 64 * 128, 63), Ok(64));
+
+    let mut t = vec![0.0; 64 * 128];
+    assert_eq!(ViewMut { n: 64, stride: 128, numbers: &mut t }.reorder_schur(None, 63, 0).unwrap().swaps, 63);
+}
+
+#[test]
+fn forms_refused_at_a_stride() {
+    let of = |t: &[f64]| {
+        let (t, u) = (spread(6, 8, t), spread(6, 8, &[9.0; 36]));
+        refused(&t, &u, |t, u| ViewMut { n: 6, stride: 8, numbers: t }.reorder_schur(u, 6, 0))
+    };
+    let mut t = SIX;
+    assert_eq!(of(&t), Refusal::Position);
+    t[3 + 6 * 2] = 1.0;
+    assert_eq!(of(&t), Refusal::Touching);
+    t[5 + 6 * 3] = f64::NAN;
+    assert_eq!(of(&t), Refusal::DeepEntry);
+}
+
 #[test]
 fn every_refusal_says_its_own() {
     use Refusal::*;
-    let all = [Rows, FormLength, BufferLength, DeepEntry, Touching, Position, BlockSize, PastEnd, Across, TailLength];
+    let all =
+        [Rows, Stride, FormLength, BufferLength, DeepEntry, Touching, Position, BlockSize, PastEnd, Across, TailLength];
     let messages: std::collections::BTreeSet<String> = all.iter().map(|refusal| refusal.to_string()).collect();
     assert_eq!(messages.len(), all.len());
-    assert_eq!(all.map(Refusal::number), [2, 3, 4, 5, 6, 7, 8, 9, 10, 11]);
+    assert_eq!(all.map(Refusal::number), [2, 17, 3, 4, 5, 6, 7, 8, 9, 10, 11]);
 }

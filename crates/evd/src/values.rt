@@ -6,12 +6,12 @@ ghost use lib.Dec.{eqb};
 ghost use lib.ListN.{length};
 ghost use lib.Ieee.{binary64};
 ghost use Rattle.model.specs.Values as Values;
-ghost use Rattle.evd.specs.Further.{furtherLine};
+ghost use Rattle.form.specs.Lines.{furtherLine};
 ghost use Rattle.solve.specs.Sizes.{Whole};
-use form::form_line;
 use form::place;
+use form::shape_line;
+use form::size_line;
 use solve::block::imag_size;
-use solve::block::with_further;
 
 // A 1-block in row j: its diagonal number and +0.
 fn one_value(ld: usize, n: usize, t: &[f64], j: usize, re: &mut [f64], im: &mut [f64])
@@ -64,21 +64,28 @@ fn all_values(ld: usize, n: usize, t: &[f64], re: &mut [f64], im: &mut [f64])
 }
 
 // The first line that applies to a form and two buffers of so many numbers, or 0.
-fn values_line(n: usize, t: &[f64], re_len: usize, im_len: usize) -> usize
-    ensures { λ r. ⌜ r ≡ furtherLine binary64 n n (now (t .entry)) (not (eqb «re_len» n) || not (eqb «im_len» n)) ⌝ }
+fn values_line(ld: usize, n: usize, t: &[f64], re_len: usize, im_len: usize) -> usize
+    ensures { λ r. ⌜ r ≡ furtherLine ld n (now (t .entry)) (not (eqb «re_len» n) || not (eqb «im_len» n)) ⌝ }
 {
-    with_further(form_line(n, t), (re_len != n) | (im_len != n))
+    let line = size_line(ld, n, t);
+    if line != 0 {
+        return line;
+    }
+    if (re_len != n) | (im_len != n) {
+        return 4;
+    }
+    shape_line(ld, n, t)
 }
 
 // The real and the imaginary parts of the form's values, or the number of the first line that
 // applies.
-pub fn block_values(n: usize, t: &[f64], re: &mut [f64], im: &mut [f64]) -> usize
-    ensures { λ r. ⌜ (record { answer = r; parts = record { re = now (re .exit); im = now (im .exit) } }) ≡ Values.blockValues binary64 n n (now (t .entry)) (record { re = now (re .entry); im = now (im .entry) }) ⌝ }
+pub fn block_values(n: usize, ld: usize, t: &[f64], re: &mut [f64], im: &mut [f64]) -> usize
+    ensures { λ r. ⌜ (record { answer = r; parts = record { re = now (re .exit); im = now (im .exit) } }) ≡ Values.blockValues binary64 ld n (now (t .entry)) (record { re = now (re .entry); im = now (im .entry) }) ⌝ }
 {
-    let line = values_line(n, t, re.len(), im.len());
+    let line = values_line(ld, n, t, re.len(), im.len());
     if line != 0 {
         return line;
     }
-    all_values(n, n, t, re, im);
+    all_values(ld, n, t, re, im);
     0
 }

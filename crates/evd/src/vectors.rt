@@ -9,14 +9,14 @@ ghost use Rattle.model.specs.Values.{imagSizeAt};
 ghost use Rattle.model.specs.Vectors as Vectors;
 ghost use Rattle.solve.specs.Sizes.{Square, Whole};
 ghost use Rattle.evd.specs.View.{start};
-ghost use Rattle.evd.specs.Further.{furtherLine};
+ghost use Rattle.form.specs.Lines.{furtherLine};
 use arith::real::abs;
 use arith::real::abs1;
-use form::form_line;
 use form::place;
+use form::shape_line;
+use form::size_line;
 use solve::block::imag_size;
 use solve::block::last_size;
-use solve::block::with_further;
 use solve::solve_cplx::solve_cplx_shifted_upper_quasi_triangular_system;
 use solve::solve_real::solve_real_shifted_upper_quasi_triangular_system;
 
@@ -194,24 +194,27 @@ fn all_columns(ld: usize, n: usize, t: &[f64], v: &mut [f64])
 }
 
 // The first line that applies to a form and vectors of so many numbers, or 0.
-fn vectors_line(n: usize, t: &[f64], len: usize) -> usize
-    ensures { λ r. ⌜ r ≡ furtherLine binary64 n n (now (t .entry)) (not (eqb len (n * n))) ⌝ }
+fn vectors_line(ld: usize, n: usize, t: &[f64], len: usize) -> usize
+    ensures { λ r. ⌜ r ≡ furtherLine ld n (now (t .entry)) (not (eqb len (ld * n))) ⌝ }
 {
-    let line = form_line(n, t);
-    if line == 2 {
-        return 2;
-    }
-    with_further(line, len != n * n)
-}
-
-// The vectors of the form t, or the number of the first line that applies.
-pub fn evd_from_real_schur(n: usize, t: &[f64], v: &mut [f64]) -> usize
-    ensures { λ r. ⌜ (record { answer = r; v = now (v .exit) }) ≡ Vectors.evdFromRealSchur binary64 n n (now (t .entry)) (now (v .entry)) ⌝ }
-{
-    let line = vectors_line(n, t, v.len());
+    let line = size_line(ld, n, t);
     if line != 0 {
         return line;
     }
-    all_columns(n, n, t, v);
+    if len != ld * n {
+        return 4;
+    }
+    shape_line(ld, n, t)
+}
+
+// The vectors of the form t, or the number of the first line that applies.
+pub fn evd_from_real_schur(n: usize, ld: usize, t: &[f64], v: &mut [f64]) -> usize
+    ensures { λ r. ⌜ (record { answer = r; v = now (v .exit) }) ≡ Vectors.evdFromRealSchur binary64 ld n (now (t .entry)) (now (v .entry)) ⌝ }
+{
+    let line = vectors_line(ld, n, t, v.len());
+    if line != 0 {
+        return line;
+    }
+    all_columns(ld, n, t, v);
     0
 }

@@ -40,30 +40,32 @@ rest {step} {k} {p} {t} {s} r h e =
 
 -- ---- runs inside a form of n rows and columns
 
-pub resized : {n : ℕ} {t s : List Float} → Sized n t → length s ≡ length t → Sized n s
-resized z e = record { small = z .small; whole = e ∙ z .whole }
+pub resized : {ld n : ℕ} {t s : List Float} → Sized ld n t → length s ≡ length t → Sized ld n s
+resized z e = record { small = z .small; fits = z .fits; near = z .near; whole = e ∙ z .whole }
 
-square : {n : ℕ} {t : List Float} → Sized n t → length t ≤ 8192
-square {n} {t} z = let h = z .small in let e = z .whole in omega (arith, mul-le-mul h h)
+square : {ld n : ℕ} {t : List Float} → Sized ld n t → length t ≤ 8192
+square {ld} {n} {t} z = let e = z .whole in omega (arith, mul-le-mul (z .near) (z .small))
 
 -- row x from column j on
-pub rows : {n x j p : ℕ} {t : List Float} → Sized n t → x < n → j ≤ n → p ≡ x + n * j → Run n (n - j) p t
-rows {n} {x} {j} {p} {t} z h k e =
+pub rows : {ld n x j p : ℕ} {t : List Float} → Sized ld n t → x < n → j ≤ n → p ≡ x + ld * j → Run ld (n - j) p t
+rows {ld} {n} {x} {j} {p} {t} z h k e =
     let w = z .whole in
+    let f = z .fits in
     let a : n - j + j ≡ n = omega arith in
-    let b : n * (n - j + j) ≡ n * n = ap (λ (m : ℕ). n * m) a in
-    record { inside = omega arith; short = square z; near = omega (arith, z .small) }
+    let b : ld * (n - j + j) ≡ ld * n = ap (λ (m : ℕ). ld * m) a in
+    record { inside = omega arith; short = square z; near = z .near }
 
 -- column x in the first k rows
-pub cols : {n x k p : ℕ} {t : List Float} → Sized n t → x < n → k ≤ n → p ≡ 0 + n * x → Run 1 k p t
-cols {n} {x} {k} {p} {t} z h g e =
+pub cols : {ld n x k p : ℕ} {t : List Float} → Sized ld n t → x < n → k ≤ n → p ≡ 0 + ld * x → Run 1 k p t
+cols {ld} {n} {x} {k} {p} {t} z h g e =
     let w = z .whole in
-    let m : n * suc x ≤ n * n = mul-le-mul-left n h in
+    let f = z .fits in
+    let m : ld * suc x ≤ ld * n = mul-le-mul-left ld h in
     record { inside = omega arith; short = square z; near = lit≤ tt }
 
--- a factor that is there
-pub present : {n : ℕ} {u : List Float} → Beside n u → n ≤ 64 → (length u ≡ 0 → ⊥) → Sized n u
-present b h k = record { small = h; whole = ⊎-elim (λ e. absurd (k e)) (λ e. e) (b .either) }
+-- a factor that is there, beside a form
+pub present : {ld n : ℕ} {u : List Float} → Beside ld n u → n ≤ 64 → n ≤ ld → ld ≤ 128 → (length u ≡ 0 → ⊥) → Sized ld n u
+present b h f g k = record { small = h; fits = f; near = g; whole = ⊎-elim (λ e. absurd (k e)) (λ e. e) (b .either) }
 
-pub still : {n : ℕ} {u v : List Float} → Beside n u → length v ≡ length u → Beside n v
+pub still : {ld n : ℕ} {u v : List Float} → Beside ld n u → length v ≡ length u → Beside ld n v
 still b e = record { either = ⊎-elim (λ h. inl (e ∙ h)) (λ h. inr (e ∙ h)) (b .either) }

@@ -1,16 +1,26 @@
--- Lines 2 to 6 of document 01's list, which a move and an exchange share. Definitions only. Assumes nothing.
+-- The lines of document 01's list that the calls on forms share, in their parts: those of sizes, that of a further buffer, those of the form's shape. Definitions only. Assumes nothing.
 use Prim.Native.Nat.{ℕ}
 use mathlib.Core.Bool.{Bool, _&&_, _||_}
 use mathlib.Core.List.{List, [], _∷_}
 use lib.Dec.{eqb}
 use lib.Ieee.{Float, binary64}
 use Rattle.model.specs.Lines.{firstOf}
-use Rattle.model.specs.Form.{rowCount, formLength, factorLength, deepEntry, touchingBlocks}
+use Rattle.model.specs.Form.{rowCount, stride, formLength, deepEntry, touchingBlocks}
 
--- the first of them that applies, or 0
-unfoldable pub acceptLine : ℕ → List Float → List Float → ℕ
+-- the first of lines 2, 17 and 3 that applies, or 0
+unfoldable pub sizeLine : ℕ → ℕ → List Float → ℕ
 unfolding firstOf
-acceptLine n t u = firstOf (rowCount n ∷ formLength n n t ∷ factorLength n n u ∷ deepEntry binary64 n n t ∷ touchingBlocks binary64 n n t ∷ [])
+sizeLine ld n t = firstOf (rowCount n ∷ stride ld n ∷ formLength ld n t ∷ [])
+
+-- the first of lines 5 and 6 that applies, or 0
+unfoldable pub shapeLine : ℕ → ℕ → List Float → ℕ
+unfolding firstOf
+shapeLine ld n t = firstOf (deepEntry binary64 ld n t ∷ touchingBlocks binary64 ld n t ∷ [])
+
+-- all of them with line 4 of further buffers, of which it is told whether one of their lengths is wrong
+unfoldable pub furtherLine : ℕ → ℕ → List Float → Bool → ℕ
+unfolding firstOf
+furtherLine ld n t wrong = firstOf (rowCount n ∷ stride ld n ∷ formLength ld n t ∷ record { number = 4; applies = wrong } ∷ deepEntry binary64 ld n t ∷ touchingBlocks binary64 ld n t ∷ [])
 
 -- line 8 does not apply
 abbrev pub sizesFit : ℕ → ℕ → Bool

@@ -1,13 +1,14 @@
 // Inside (`swaps`, `schur`, `solve`, `evd`): what speaks of a form. The lines of document 01's list that it
 // meets by itself, the places of its numbers, its blocks, and the lines of a move and an exchange.
 ghost use mathlib.Core.Path.{_≡_};
-ghost use mathlib.Core.Bool.{_||_, _&&_, cond};
+ghost use mathlib.Core.Bool.{_||_, _&&_};
 ghost use Prim.Native.Nat.{ℕ, _+_, _-_, _*_, _<_, _≤_};
 ghost use lib.ListN.{length};
 ghost use lib.Ieee.{binary64, ne, ofBits};
 ghost use Rattle.model.specs.Form as Form;
 ghost use Rattle.model.specs.Form.{at, some};
 ghost use Rattle.form.specs.Run.{Sized};
+ghost use Rattle.form.specs.Lines.{sizeLine, shapeLine};
 use crate::blocks::nonzero_below;
 
 pub mod blocks;
@@ -82,26 +83,27 @@ fn deep_rows(ld: usize, t: &[f64], top: usize, rows: usize) -> bool
     any_in_corner(ld, t, top + 1 + ld * whole, rows)
 }
 
-// Line 5, from the last rows up: eight rows at a time, then four, then one.
-fn deep(n: usize, t: &[f64]) -> bool
-    requires { ⌜ (n ≤ 64) × (length (now t) ≡ n * n) ⌝ }
-    ensures { λ r. ⌜ r ≡ Form.line5 binary64 n n (now (t .entry)) ⌝ }
+// Line 5, from the last rows up: eight rows at a time, then four, then one. The first two rows have no
+// such entry.
+fn deep(ld: usize, n: usize, t: &[f64]) -> bool
+    requires { ⌜ Sized ld n (now t) ⌝ }
+    ensures { λ r. ⌜ r ≡ Form.line5 binary64 ld n (now (t .entry)) ⌝ }
 {
     let mut m = n;
     while 8 < m {
-        if deep_rows(n, t, m - 8, 8) {
+        if deep_rows(ld, t, m - 8, 8) {
             return true;
         }
         m -= 8;
     }
     while 4 < m {
-        if deep_rows(n, t, m - 4, 4) {
+        if deep_rows(ld, t, m - 4, 4) {
             return true;
         }
         m -= 4;
     }
-    while 1 < m {
-        if deep_rows(n, t, m - 1, 1) {
+    while 2 < m {
+        if deep_rows(ld, t, m - 1, 1) {
             return true;
         }
         m -= 1;
@@ -110,49 +112,49 @@ fn deep(n: usize, t: &[f64]) -> bool
 }
 
 // Line 6. Of two neighbours one is in an odd column, so one test for each odd column does.
-fn touching(n: usize, t: &[f64]) -> bool
-    requires { ⌜ Sized n (now t) ⌝ }
-    ensures { λ r. ⌜ r ≡ Form.line6 binary64 n n (now (t .entry)) ⌝ }
+fn touching(ld: usize, n: usize, t: &[f64]) -> bool
+    requires { ⌜ Sized ld n (now t) ⌝ }
+    ensures { λ r. ⌜ r ≡ Form.line6 binary64 ld n (now (t .entry)) ⌝ }
 {
     let mut j = 0;
     while j + 3 < n {
-        let beside = nonzero_below(t, n, j) | nonzero_below(t, n, j + 1 + 1);
-        if nonzero_below(t, n, j + 1) & beside {
+        let beside = nonzero_below(t, ld, n, j) | nonzero_below(t, ld, n, j + 1 + 1);
+        if nonzero_below(t, ld, n, j + 1) & beside {
             return true;
         }
         j += 2;
     }
     if j + 2 < n {
-        return nonzero_below(t, n, j) & nonzero_below(t, n, j + 1);
+        return nonzero_below(t, ld, n, j) & nonzero_below(t, ld, n, j + 1);
     }
     false
 }
 
 // 5 or 6, the first that applies, or 0.
-fn shape_line(n: usize, t: &[f64]) -> usize
-    requires { ⌜ (n ≤ 64) × (length (now t) ≡ n * n) ⌝ }
-    ensures { λ r. ⌜ r ≡ cond (Form.line5 binary64 n n (now (t .entry))) 5 (cond (Form.line6 binary64 n n (now (t .entry))) 6 0) ⌝ }
+pub fn shape_line(ld: usize, n: usize, t: &[f64]) -> usize
+    requires { ⌜ Sized ld n (now t) ⌝ }
+    ensures { λ r. ⌜ r ≡ shapeLine ld n (now (t .entry)) ⌝ }
 {
-    let far = deep(n, t);
-    let near = touching(n, t);
+    let far = deep(ld, n, t);
+    let near = touching(ld, n, t);
     if far {
         return 5;
     }
     if near { 6 } else { 0 }
 }
 
-// The first line that applies to a form by itself, 2, 3, 5 or 6, or 0.
-pub fn form_line(n: usize, t: &[f64]) -> usize
-    ensures { λ r. ⌜ r ≡ Form.formLine binary64 n n (now (t .entry)) ⌝ }
+// 2, 17 or 3, the first that applies, or 0: past them stride × n may be formed.
+pub fn size_line(ld: usize, n: usize, t: &[f64]) -> usize
+    ensures { λ r. ⌜ r ≡ sizeLine ld n (now (t .entry)) ⌝ }
 {
-    if n == 0 {
+    if (n == 0) | (64 < n) {
         return 2;
     }
-    if 64 < n {
-        return 2;
+    if (ld < n) | (128 < ld) {
+        return 17;
     }
-    if t.len() != n * n {
+    if t.len() != ld * n {
         return 3;
     }
-    shape_line(n, t)
+    0
 }

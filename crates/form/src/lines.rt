@@ -2,38 +2,34 @@
 ghost use mathlib.Core.Path.{_≡_};
 ghost use Prim.Native.Nat.{_+_, _≤_, _<_};
 ghost use lib.Ieee.{binary64};
+ghost use Rattle.model.specs.Form.{line4};
 ghost use Rattle.model.specs.Exchange as Exchange;
 ghost use Rattle.model.specs.Move as Move;
 ghost use Rattle.form.specs.Run.{Sized};
-ghost use Rattle.form.specs.Lines.{acceptLine, sizesFit};
+ghost use Rattle.form.specs.Lines.{furtherLine, sizesFit};
 use crate::blocks::crosses;
-use crate::form_line;
+use crate::shape_line;
+use crate::size_line;
 
-// Lines 2 to 6: of form and factor.
-fn accept_line(n: usize, t: &[f64], u: &[f64]) -> usize
-    ensures { λ r. ⌜ r ≡ acceptLine n (now (t .entry)) (now (u .entry)) ⌝ }
+// Lines 2, 17 and 3 to 6: of form and factor.
+fn accept_line(ld: usize, n: usize, t: &[f64], u: &[f64]) -> usize
+    ensures { λ r. ⌜ r ≡ furtherLine ld n (now (t .entry)) (line4 ld n (now (u .entry))) ⌝ }
 {
-    let line = form_line(n, t);
-    if line == 2 {
-        return 2;
-    }
-    if line == 3 {
-        return 3;
-    }
-    if u.len() == n * n {
+    let line = size_line(ld, n, t);
+    if line != 0 {
         return line;
     }
-    if u.len() == 0 {
-        return line;
+    if (u.len() == ld * n) | (u.len() == 0) {
+        return shape_line(ld, n, t);
     }
     4
 }
 
-// Lines 2 to 7 of a move.
-pub fn move_line(n: usize, t: &[f64], u: &[f64], from: usize, to: usize) -> usize
-    ensures { λ r. ⌜ r ≡ Move.moveLine binary64 n n (now (t .entry)) (now (u .entry)) from to ⌝ }
+// Lines 2, 17 and 3 to 7 of a move.
+pub fn move_line(ld: usize, n: usize, t: &[f64], u: &[f64], from: usize, to: usize) -> usize
+    ensures { λ r. ⌜ r ≡ Move.moveLine binary64 ld n (now (t .entry)) (now (u .entry)) from to ⌝ }
 {
-    let line = accept_line(n, t, u);
+    let line = accept_line(ld, n, t, u);
     if line != 0 {
         return line;
     }
@@ -66,21 +62,29 @@ fn sizes_fit(n1: usize, n2: usize) -> bool
 }
 
 // Line 10: a 2-block lies across an edge.
-fn any_crosses(t: &[f64], n: usize, j: usize, n1: usize, n2: usize) -> bool
-    requires { ⌜ Sized n (now t) × (j + n1 + n2 ≤ 64) ⌝ }
-    ensures { λ r. ⌜ r ≡ Exchange.line10 binary64 n n (now (t .entry)) j n1 n2 ⌝ }
+fn any_crosses(t: &[f64], ld: usize, n: usize, j: usize, n1: usize, n2: usize) -> bool
+    requires { ⌜ Sized ld n (now t) × (j + n1 + n2 ≤ 64) ⌝ }
+    ensures { λ r. ⌜ r ≡ Exchange.line10 binary64 ld n (now (t .entry)) j n1 n2 ⌝ }
 {
-    let upper = crosses(t, n, j);
-    let middle = crosses(t, n, j + n1);
-    let lower = crosses(t, n, j + n1 + n2);
+    let upper = crosses(t, ld, n, j);
+    let middle = crosses(t, ld, n, j + n1);
+    let lower = crosses(t, ld, n, j + n1 + n2);
     upper | (middle | lower)
 }
 
-// Lines 2 to 10 of an exchange.
-pub fn exchange_line(n: usize, t: &[f64], u: &[f64], j0: usize, n1: usize, n2: usize) -> usize
-    ensures { λ r. ⌜ r ≡ Exchange.exchangeLine binary64 n n (now (t .entry)) (now (u .entry)) j0 n1 n2 ⌝ }
+// Lines 2, 17 and 3 to 10 of an exchange.
+pub fn exchange_line(
+    ld: usize,
+    n: usize,
+    t: &[f64],
+    u: &[f64],
+    j0: usize,
+    n1: usize,
+    n2: usize,
+) -> usize
+    ensures { λ r. ⌜ r ≡ Exchange.exchangeLine binary64 ld n (now (t .entry)) (now (u .entry)) j0 n1 n2 ⌝ }
 {
-    let line = accept_line(n, t, u);
+    let line = accept_line(ld, n, t, u);
     if line != 0 {
         return line;
     }
@@ -91,7 +95,7 @@ pub fn exchange_line(n: usize, t: &[f64], u: &[f64], j0: usize, n1: usize, n2: u
         if n < j0 + n1 + n2 {
             return 9;
         }
-        if any_crosses(t, n, j0, n1, n2) {
+        if any_crosses(t, ld, n, j0, n1, n2) {
             return 10;
         }
         return 0;

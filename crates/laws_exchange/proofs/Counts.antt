@@ -9,7 +9,7 @@ use lib.Dec.{eqb, lit≤}
 use lib.Ieee.{Float, Format, eq, ne}
 use borrow.Author.Tests.{eqb-true, ltb-false, lt-ltb, not-false}
 use Rattle.model.specs.Arith.{zeroOf}
-use Rattle.model.specs.Form.{entry, zeroBelow, twoBlock, line2, line3, line4, line5, line6, line7}
+use Rattle.model.specs.Form.{entry, zeroBelow, twoBlock, line2, line17, line3, line4, line5, line6, line7}
 use Rattle.model.specs.Swaps.{Change, unchanged, andThen, swapsOf, declining, swap11, swap12, swap21, windowAt, solutionOf, reflectors4, declines, swap22By, swap22, swapOf, standardise}
 use Rattle.model.specs.Exchange.{standardiseIf, exchangeWhole, exchange, line8, line9, crosses, line10, exchangeLine, exchangeCall}
 use Rattle.laws.proofs.InOrder.{passed}
@@ -161,7 +161,8 @@ module _ (f : Format) (ld n : ℕ) (t u : List Float) (j n1 n2 : ℕ) (h : excha
   unfolding exchangeLine
   last-lines =
       let p2 = passed (line2 n) 1 _ h in
-      let p3 = passed (line3 ld n t) 2 _ (p2 .1) in
+      let p17 = passed (line17 ld n) 16 _ (p2 .1) in
+      let p3 = passed (line3 ld n t) 2 _ (p17 .1) in
       let p4 = passed (line4 ld n u) 3 _ (p3 .1) in
       let p5 = passed (line5 f ld n t) 4 _ (p4 .1) in
       let p6 = passed (line6 f ld n t) 5 _ (p5 .1) in

@@ -59,50 +59,50 @@ count-at (suc k) i (suc j) h = let e = count-at k (i + 1) j (le-of-suc-le-suc h)
 
 -- ---- the diagonal, read by the row list
 
-pub record Tracks (f : Format) (n : ℕ) (a t : List Float) (rs : List ℕ) : Type 0 where
-  pub upper : Upper f n t
+pub record Tracks (f : Format) (ld n : ℕ) (a t : List Float) (rs : List ℕ) : Type 0 where
+  pub upper : Upper f ld n t
   pub size : length rs ≡ n
   pub inside : (i : ℕ) → i < n → getD rs i 0 < n
-  pub row : (i : ℕ) → i < n → entry n t i i ≡ entry n a (getD rs i 0) (getD rs i 0)
+  pub row : (i : ℕ) → i < n → entry ld t i i ≡ entry ld a (getD rs i 0) (getD rs i 0)
 
 -- from which row the number in row i comes, on the diagonal and in the row list
-record From (f : Format) (n j i : ℕ) (t : List Float) (rs : List ℕ) : Type 0 where
+record From (f : Format) (ld n j i : ℕ) (t : List Float) (rs : List ℕ) : Type 0 where
   source : ℕ
   below : source < n
-  number : entry n (after f n n j t) i i ≡ entry n t source source
+  number : entry ld (after f ld n j t) i i ≡ entry ld t source source
   listed : getD (crossAt j rs) i 0 ≡ getD rs source 0
 
-from-lower : (f : Format) (n j : ℕ) (t : List Float) (rs : List ℕ) → length t ≡ n * n → length rs ≡ n → j + 1 < n → From f n j j t rs
-from-lower f n j t rs l m g =
+from-lower : (f : Format) (ld n j : ℕ) (t : List Float) (rs : List ℕ) → Upper f ld n t → length rs ≡ n → j + 1 < n → From f ld n j j t rs
+from-lower f ld n j t rs l m g =
     let x : j ≢ suc j = omega arith in
     let y : j < length rs = omega arith in
-    record { source = j + 1; below = g; number = after-upper f n n j t (omega arith) g l; listed = rw (add-one, getD-set-other, getD-set-same) }
+    record { source = j + 1; below = g; number = after-upper f ld n j t (omega arith) g (l .size); listed = rw (add-one, getD-set-other, getD-set-same) }
 
-from-upper : (f : Format) (n j : ℕ) (t : List Float) (rs : List ℕ) → length t ≡ n * n → length rs ≡ n → j + 1 < n → From f n j (j + 1) t rs
-from-upper f n j t rs l m g =
+from-upper : (f : Format) (ld n j : ℕ) (t : List Float) (rs : List ℕ) → Upper f ld n t → length rs ≡ n → j + 1 < n → From f ld n j (j + 1) t rs
+from-upper f ld n j t rs l m g =
     let y : suc j < length (set rs j (getD rs (suc j) 0)) = simp length-set (omega arith) in
-    record { source = j; below = omega arith; number = after-lower f n n j t (omega arith) g l; listed = rw (add-one, getD-set-same) }
+    record { source = j; below = omega arith; number = after-lower f ld n j t (omega arith) g (l .size); listed = rw (add-one, getD-set-same) }
 
-from-itself : (f : Format) (n j i : ℕ) (t : List Float) (rs : List ℕ) → j + 1 < n → i < n → i ≢ j → i ≢ j + 1 → From f n j i t rs
-from-itself f n j i t rs g h p q =
+from-itself : (f : Format) (ld n j i : ℕ) (t : List Float) (rs : List ℕ) → Upper f ld n t → j + 1 < n → i < n → i ≢ j → i ≢ j + 1 → From f ld n j i t rs
+from-itself f ld n j i t rs l g h p q =
     let x : i ≢ suc j = omega arith in
-    record { source = i; below = h; number = after-else f n n j t (omega arith) g i i (omega arith) h (λ e _. p e) (λ e _. q e); listed = rw (getD-set-other, getD-set-other) }
+    record { source = i; below = h; number = after-else f ld n j t (omega arith) g i i (omega arith) h (λ e _. p e) (λ e _. q e); listed = rw (getD-set-other, getD-set-other) }
 
-from : (f : Format) (n j i : ℕ) (t : List Float) (rs : List ℕ) → length t ≡ n * n → length rs ≡ n → j + 1 < n → i < n → From f n j i t rs
-from f n j i t rs l m g h =
+from : (f : Format) (ld n j i : ℕ) (t : List Float) (rs : List ℕ) → Upper f ld n t → length rs ≡ n → j + 1 < n → i < n → From f ld n j i t rs
+from f ld n j i t rs l m g h =
     elim (ℕ-discrete i j) [
-      | yes p ↦ rw p (from-lower f n j t rs l m g)
-      | no p ↦ elim (ℕ-discrete i (j + 1)) [ yes q ↦ rw q (from-upper f n j t rs l m g) | no q ↦ from-itself f n j i t rs g h p q ]
+      | yes p ↦ rw p (from-lower f ld n j t rs l m g)
+      | no p ↦ elim (ℕ-discrete i (j + 1)) [ yes q ↦ rw q (from-upper f ld n j t rs l m g) | no q ↦ from-itself f ld n j i t rs l g h p q ]
     ]
 
-pub tracks-after : (f : Format) (n j : ℕ) (a t : List Float) (rs : List ℕ) → j + 1 < n → Tracks f n a t rs → Tracks f n a (after f n n j t) (crossAt j rs)
-tracks-after f n j a t rs g k =
+pub tracks-after : (f : Format) (ld n j : ℕ) (a t : List Float) (rs : List ℕ) → j + 1 < n → Tracks f ld n a t rs → Tracks f ld n a (after f ld n j t) (crossAt j rs)
+tracks-after f ld n j a t rs g k =
     record {
-      upper = upper-after f n j t g (k .upper);
+      upper = upper-after f ld n j t g (k .upper);
       size = simp length-set (k .size);
       inside = λ i h. let w = come i h in rw (w .listed) (k .inside (w .source) (w .below));
       row = λ i h. let w = come i h in rw (w .listed) (w .number ∙ k .row (w .source) (w .below));
     }
   where
-    come : (i : ℕ) → i < n → From f n j i t rs
-    come i h = from f n j i t rs (k .upper .size) (k .size) g h
+    come : (i : ℕ) → i < n → From f ld n j i t rs
+    come i h = from f ld n j i t rs (k .upper) (k .size) g h

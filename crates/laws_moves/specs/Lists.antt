@@ -18,14 +18,14 @@ pub record Move : Type 0 where
   pub to : ℕ
   pub factor : List Float
 
--- each move by the call's own definition, the one that the contract of reorder_schur cites, on the form as the move before left it
-unfoldable pub formAfter : Format → ℕ → List Move → List Float → List Float
-formAfter f n [] t = t
-formAfter f n (m ∷ ms) t = formAfter f n ms (moveCall f n n t (m .factor) (m .from) (m .to) .form)
+-- each move by the call's own definition, the one that the contract of reorder_schur cites, on the form as the move before left it; n and the stride stay from the first move to the last
+unfoldable pub formAfter : Format → ℕ → ℕ → List Move → List Float → List Float
+formAfter f ld n [] t = t
+formAfter f ld n (m ∷ ms) t = formAfter f ld n ms (moveCall f ld n t (m .factor) (m .from) (m .to) .form)
 
 -- ---- the row list, by itself: it reads no number of a form or a factor, and no answer
 
--- what it is fed of a move: the two positions, and the factor's length
+-- what it is fed of a move, beside n and the stride: the two positions, and the factor's length
 pub record Fed : Type 0 where
   pub from : ℕ
   pub to : ℕ
@@ -55,51 +55,52 @@ putIn x zero rs = x ∷ rs
 putIn x (suc k) [] = x ∷ []
 putIn x (suc k) (r ∷ rs) = r ∷ putIn x k rs
 
--- line 4, the factor's length is neither n × n nor 0, or line 7, a position is not below n
-unfoldable pub refused : ℕ → Fed → Bool
-refused n m = not (eqb (m .factorLength) (n * n) || eqb (m .factorLength) 0) || (not (ltb (m .from) n) || not (ltb (m .to) n))
+-- line 4, the factor's length is neither stride × n nor 0, or line 7, a position is not below n
+unfoldable pub refused : ℕ → ℕ → Fed → Bool
+refused ld n m = not (eqb (m .factorLength) (ld * n) || eqb (m .factorLength) 0) || (not (ltb (m .from) n) || not (ltb (m .to) n))
 
 -- a move
-unfoldable pub rowsMoved : ℕ → Fed → List ℕ → List ℕ
-rowsMoved n m rs = cond (refused n m) rs (cond (eqb (m .from) (m .to)) rs (putIn (getD rs (m .from) 0) (m .to) (takeOut (m .from) rs)))
+unfoldable pub rowsMoved : ℕ → ℕ → Fed → List ℕ → List ℕ
+rowsMoved ld n m rs = cond (refused ld n m) rs (cond (eqb (m .from) (m .to)) rs (putIn (getD rs (m .from) 0) (m .to) (takeOut (m .from) rs)))
 
-unfoldable pub rowsAfter : ℕ → List Fed → List ℕ → List ℕ
-rowsAfter n [] rs = rs
-rowsAfter n (m ∷ ms) rs = rowsAfter n ms (rowsMoved n m rs)
+unfoldable pub rowsAfter : ℕ → ℕ → List Fed → List ℕ → List ℕ
+rowsAfter ld n [] rs = rs
+rowsAfter ld n (m ∷ ms) rs = rowsAfter ld n ms (rowsMoved ld n m rs)
 
 -- from 0, 1, up to n - 1
-unfoldable pub rowList : ℕ → List Fed → List ℕ
-rowList n ms = rowsAfter n ms (countFrom n 0)
+unfoldable pub rowList : ℕ → ℕ → List Fed → List ℕ
+rowList ld n ms = rowsAfter ld n ms (countFrom n 0)
 
 -- ---- forms and their diagonals
 
 -- no line turns the form away, and its subdiagonal entries are all zero, of either sign
-pub record Triangular (f : Format) (n : ℕ) (t : List Float) : Type 0 where
-  pub accepted : formLine f n n t ≡ 0
-  pub zeros : (j : ℕ) → j + 1 < n → zeroBelow f n t j ≡ true
+pub record Triangular (f : Format) (ld n : ℕ) (t : List Float) : Type 0 where
+  pub accepted : formLine f ld n t ≡ 0
+  pub zeros : (j : ℕ) → j + 1 < n → zeroBelow f ld t j ≡ true
 
 -- the bits of the number in row i, column i
 abbrev pub bitsAt : Format → ℕ → List Float → ℕ → ℕ
-bitsAt f n t i = toBits f (entry n t i i)
+bitsAt f ld t i = toBits f (entry ld t i i)
 
-abbrev pub SameBits : Format → ℕ → List Float → List Float → Type 0
-SameBits f n a b = (i : ℕ) → i < n → bitsAt f n a i ≡ bitsAt f n b i
+-- of a by the stride ld and of b by the stride md
+abbrev pub SameBits : Format → ℕ → ℕ → ℕ → List Float → List Float → Type 0
+SameBits f ld md n a b = (i : ℕ) → i < n → bitsAt f ld a i ≡ bitsAt f md b i
 
-abbrev pub PairwiseDifferentBits : Format → ℕ → List Float → Type 0
-PairwiseDifferentBits f n a = (i j : ℕ) → i < n → j < n → (i ≡ j → ⊥) → bitsAt f n a i ≡ bitsAt f n a j → ⊥
+abbrev pub PairwiseDifferentBits : Format → ℕ → ℕ → List Float → Type 0
+PairwiseDifferentBits f ld n a = (i j : ℕ) → i < n → j < n → (i ≡ j → ⊥) → bitsAt f ld a i ≡ bitsAt f ld a j → ⊥
 
-abbrev pub NoNanOnDiagonal : Format → ℕ → List Float → Type 0
-NoNanOnDiagonal f n a = (i : ℕ) → i < n → isNan (entry n a i i) ≡ false
+abbrev pub NoNanOnDiagonal : Format → ℕ → ℕ → List Float → Type 0
+NoNanOnDiagonal f ld n a = (i : ℕ) → i < n → isNan (entry ld a i i) ≡ false
 
--- ---- the claim: two lists end in equal diagonals exactly when their row lists are equal
+-- ---- the claim: two lists, each with a stride of its own, end in equal diagonals exactly when their row lists are equal
 
 abbrev pub ListsOfMoves : Type 0
 ListsOfMoves =
-    (f : Format) (n : ℕ) (a b : List Float) (p q : List Move)
-    → Triangular f n a
-    → Triangular f n b
-    → SameBits f n a b
-    → PairwiseDifferentBits f n a
-    → NoNanOnDiagonal f n a
-    → (SameBits f n (formAfter f n p a) (formAfter f n q b) → rowList n (fed p) ≡ rowList n (fed q))
-    × (rowList n (fed p) ≡ rowList n (fed q) → SameBits f n (formAfter f n p a) (formAfter f n q b))
+    (f : Format) (ld md n : ℕ) (a b : List Float) (p q : List Move)
+    → Triangular f ld n a
+    → Triangular f md n b
+    → SameBits f ld md n a b
+    → PairwiseDifferentBits f ld n a
+    → NoNanOnDiagonal f ld n a
+    → (SameBits f ld md n (formAfter f ld n p a) (formAfter f md n q b) → rowList ld n (fed p) ≡ rowList md n (fed q))
+    × (rowList ld n (fed p) ≡ rowList md n (fed q) → SameBits f ld md n (formAfter f ld n p a) (formAfter f md n q b))

@@ -6,7 +6,7 @@ use lib.Dec.{eqb, ltb}
 use lib.ListN.{length}
 use lib.Ieee.{Float, Format}
 use Rattle.model.specs.Lines.{Line, firstOf}
-use Rattle.model.specs.Form.{zeroBelow, twoBlock, rowCount, formLength, factorLength, deepEntry, touchingBlocks, position}
+use Rattle.model.specs.Form.{zeroBelow, twoBlock, rowCount, stride, formLength, factorLength, deepEntry, touchingBlocks, position}
 use Rattle.model.specs.Columns.{onFactor}
 use Rattle.model.specs.Swaps.{Change, unchanged, andThen, swapsOf, declinedOf, swapOf, standardise}
 
@@ -66,6 +66,7 @@ unfolding firstOf
 exchangeLine f ld n t u j n1 n2 =
     firstOf
     (rowCount n
+    ∷ stride ld n
     ∷ formLength ld n t
     ∷ factorLength ld n u
     ∷ deepEntry f ld n t

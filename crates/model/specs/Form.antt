@@ -1,5 +1,5 @@
 -- A form lent column after column, what stands where in it, and the lines of document 01's list that speak of a form. Definitions only. Assumes nothing.
--- `ld` is the number of places from one column to the next: n, in every call of the base.
+-- `ld` is the stride, the number of places from one column to the next. A form of n rows stands in the first n rows of its columns; what stands in the rows from n on is the lender's.
 use Prim.Native.Nat.{ℕ, zero, suc, _+_, _-_, _*_}
 use mathlib.Core.Bool.{Bool, false, not, _&&_, _||_}
 use mathlib.Core.List.{List, [], _∷_}
@@ -45,11 +45,15 @@ some (suc n) p = some n p || p n
 unfoldable pub line2 : ℕ → Bool
 line2 n = eqb n 0 || ltb 64 n
 
--- 3. The form's length is not n × n
+-- 17. The stride is below n or above 128
+unfoldable pub line17 : ℕ → ℕ → Bool
+line17 ld n = ltb ld n || ltb 128 ld
+
+-- 3. The form's length is not stride × n
 unfoldable pub line3 : ℕ → ℕ → List Float → Bool
 line3 ld n t = not (eqb (length t) (ld * n))
 
--- 4. A factor's length is neither n × n nor 0
+-- 4. A factor's length is neither stride × n nor 0
 unfoldable pub line4 : ℕ → ℕ → List Float → Bool
 line4 ld n u = not (eqb (length u) (ld * n) || eqb (length u) 0)
 
@@ -79,6 +83,9 @@ line7 n p = not (ltb p n)
 abbrev pub rowCount : ℕ → Line
 rowCount n = record { number = 2; applies = line2 n }
 
+abbrev pub stride : ℕ → ℕ → Line
+stride ld n = record { number = 17; applies = line17 ld n }
+
 abbrev pub formLength : ℕ → ℕ → List Float → Line
 formLength ld n t = record { number = 3; applies = line3 ld n t }
 
@@ -100,5 +107,5 @@ position n p = record { number = 7; applies = line7 n p }
 
 -- the first line that applies to a form by itself, or 0
 unfoldable pub formLine : Format → ℕ → ℕ → List Float → ℕ
-unfolding firstOf line2 line3 line5 line6
-formLine f ld n t = firstOf (rowCount n ∷ formLength ld n t ∷ deepEntry f ld n t ∷ touchingBlocks f ld n t ∷ [])
+unfolding firstOf line2 line17 line3 line5 line6
+formLine f ld n t = firstOf (rowCount n ∷ stride ld n ∷ formLength ld n t ∷ deepEntry f ld n t ∷ touchingBlocks f ld n t ∷ [])

@@ -5,7 +5,7 @@ use mathlib.Core.List.{List, [], _∷_, _++_}
 use lib.Dec.{eqb, ltb, leb}
 use lib.Ieee.{Float, Format}
 use Rattle.model.specs.Lines.{firstOf}
-use Rattle.model.specs.Form.{zeroBelow, nonzeroBelow, twoBlock, rowCount, formLength, factorLength, deepEntry, touchingBlocks, position}
+use Rattle.model.specs.Form.{zeroBelow, nonzeroBelow, twoBlock, rowCount, stride, formLength, factorLength, deepEntry, touchingBlocks, position}
 use Rattle.model.specs.Columns.{onFactor}
 use Rattle.model.specs.Swaps.{Change, unchanged, andThen, swapsOf, declinedOf}
 use Rattle.model.specs.Exchange.{exchange, factorRows}
@@ -136,6 +136,7 @@ unfolding firstOf
 moveLine f ld n t u from to =
     firstOf
     (rowCount n
+    ∷ stride ld n
     ∷ formLength ld n t
     ∷ factorLength ld n u
     ∷ deepEntry f ld n t

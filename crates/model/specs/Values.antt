@@ -8,7 +8,7 @@ use lib.Ieee.{Float, Format, neg, mul}
 use Rattle.model.specs.Root.{sqrt}
 use Rattle.model.specs.Arith.{zeroOf, abs}
 use Rattle.model.specs.Lines.{firstOf}
-use Rattle.model.specs.Form.{entry, nonzeroBelow, rowCount, formLength, bufferLength, deepEntry, touchingBlocks}
+use Rattle.model.specs.Form.{entry, nonzeroBelow, rowCount, stride, formLength, bufferLength, deepEntry, touchingBlocks}
 
 -- the imaginary size of the 2-block whose numbers off the diagonal these are
 unfoldable pub imagSize : Format → Float → Float → Float
@@ -51,6 +51,7 @@ unfolding firstOf
 valuesLine f ld n t s =
     firstOf
     (rowCount n
+    ∷ stride ld n
     ∷ formLength ld n t
     ∷ bufferLength (length (s .re)) n
     ∷ bufferLength (length (s .im)) n

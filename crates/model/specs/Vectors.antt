@@ -8,7 +8,7 @@ use lib.ListN.{length, set, take, drop}
 use lib.Ieee.{Float, Format, neg, add, sub, mul, div, lt, le, ne}
 use Rattle.model.specs.Arith.{zeroOf, oneOf, twoOf, epsOf, abs, abs1, abs2, recip, mulPow2, hypot, innerProd}
 use Rattle.model.specs.Lines.{firstOf}
-use Rattle.model.specs.Form.{place, at, entry, zeroBelow, rowCount, formLength, bufferLength, deepEntry, touchingBlocks, position}
+use Rattle.model.specs.Form.{place, at, entry, zeroBelow, rowCount, stride, formLength, bufferLength, deepEntry, touchingBlocks, position}
 use Rattle.model.specs.Values.{imagSizeAt}
 
 -- ---- dots
@@ -229,7 +229,7 @@ pub record Vectors : Type 0 where
 unfoldable pub vectorsLine : Format → ℕ → ℕ → List Float → List Float → ℕ
 unfolding firstOf
 vectorsLine f ld n t v =
-    firstOf (rowCount n ∷ formLength ld n t ∷ bufferLength (length v) (ld * n) ∷ deepEntry f ld n t ∷ touchingBlocks f ld n t ∷ [])
+    firstOf (rowCount n ∷ stride ld n ∷ formLength ld n t ∷ bufferLength (length v) (ld * n) ∷ deepEntry f ld n t ∷ touchingBlocks f ld n t ∷ [])
 
 -- turned away, it leaves the vectors
 unfoldable pub evdFromRealSchur : Format → ℕ → ℕ → List Float → List Float → Vectors
@@ -239,7 +239,7 @@ evdFromRealSchur f ld n t v =
 -- the first line that applies to a column of vectors, or 0
 unfoldable pub columnLine : ℕ → ℕ → List Float → ℕ → ℕ
 unfolding firstOf
-columnLine ld n v col = firstOf (rowCount n ∷ bufferLength (length v) (ld * n) ∷ position n col ∷ [])
+columnLine ld n v col = firstOf (rowCount n ∷ stride ld n ∷ bufferLength (length v) (ld * n) ∷ position n col ∷ [])
 
 -- the part that is column `col`, or one of length 0
 unfoldable pub columnOf : ℕ → ℕ → List Float → ℕ → List Float

@@ -28,11 +28,16 @@ lines =
     ∷ Lines.makeHouseholderInPlace
     ∷ Lines.lahqrSchur22
     ∷ Lines.lasy2
-    ∷ Forms.schurSwap
-    ∷ Forms.reorderSchur
-    ∷ Forms.blockValues
-    ∷ Forms.evdFromRealSchur
-    ∷ Forms.column
+    ∷ Forms.schurSwap 0
+    ∷ Forms.reorderSchur 0
+    ∷ Forms.blockValues 0
+    ∷ Forms.evdFromRealSchur 0
+    ∷ Forms.column 0
+    ∷ Forms.schurSwap 1
+    ∷ Forms.reorderSchur 1
+    ∷ Forms.blockValues 1
+    ∷ Forms.evdFromRealSchur 1
+    ∷ Forms.column 1
     ∷ []
 
 -- what is no call has no lines

@@ -12,18 +12,18 @@ use libc::STDIN_FILENO;
 use replay_text::count::refuse;
 use replay_text::name::ROWS;
 
-// Room for a line with two forms and two factors of 64 rows.
-fn line_buffer() -> [u8; 300000]
-    ensures { λ r. ⌜ (r ≡ replicate 300000 0) × (300000 ≡ length r) ⌝ }
+// Room for a line with two forms and two factors of 64 columns, 128 places apart.
+fn line_buffer() -> [u8; 600000]
+    ensures { λ r. ⌜ (r ≡ replicate 600000 0) × (600000 ≡ length r) ⌝ }
 {
-    [0; 300000]
+    [0; 600000]
 }
 
 // Room for its words.
-fn word_buffer() -> [u64; 17000]
-    ensures { λ r. ⌜ (r ≡ replicate 17000 0) × (17000 ≡ length r) ⌝ }
+fn word_buffer() -> [u64; 33000]
+    ensures { λ r. ⌜ (r ≡ replicate 33000 0) × (33000 ≡ length r) ⌝ }
 {
-    [0; 17000]
+    [0; 33000]
 }
 
 // Takes one byte of input: a line of `len` bytes grows, or ends and is run. A line that fills the

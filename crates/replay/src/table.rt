@@ -8,7 +8,7 @@ use replay_forms::moves;
 use replay_forms::vectors;
 use replay_text::outcome::Outcome;
 
-// Runs a line of a call.
+// Runs a line of a call. The calls on forms are there twice: the lines of the second have a stride.
 pub fn run(call: usize, w: &[u64]) -> Outcome
     ensures { λ r. ⌜ r ≡ Table.shown call (now (w .entry)) ⌝ }
 {
@@ -29,11 +29,16 @@ pub fn run(call: usize, w: &[u64]) -> Outcome
         13 => calls::make_householder_in_place(w),
         14 => blocks::lahqr_schur22(w),
         15 => blocks::lasy2(w),
-        16 => moves::schur_swap(w),
-        17 => moves::reorder_schur(w),
-        18 => vectors::block_values(w),
-        19 => vectors::evd_from_real_schur(w),
-        20 => vectors::column(w),
+        16 => moves::schur_swap(0, w),
+        17 => moves::reorder_schur(0, w),
+        18 => vectors::block_values(0, w),
+        19 => vectors::evd_from_real_schur(0, w),
+        20 => vectors::column(0, w),
+        21 => moves::schur_swap(1, w),
+        22 => moves::reorder_schur(1, w),
+        23 => vectors::block_values(1, w),
+        24 => vectors::evd_from_real_schur(1, w),
+        25 => vectors::column(1, w),
         _ => Outcome::Malformed,
     }
 }

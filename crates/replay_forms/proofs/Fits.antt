@@ -12,9 +12,9 @@ use borrow.Author.Tests.{leb-true, eqb-true, ne-eqb, not-true, not-false}
 use Rattle.replay_forms.specs.Lines.{fits}
 
 pub record Fit (words rest once a b : ℕ) : Type 0 where
-  pub given : once ≤ 4225
-  pub first : a ≤ 4225
-  pub second : b ≤ 4225
+  pub given : once ≤ 8320
+  pub first : a ≤ 8320
+  pub second : b ≤ 8320
   pub all : words ≡ rest + once + 2 * (a + b)
 
 both : (a b : Bool) → (a && b) ≡ true → (a ≡ true) × (b ≡ true)
@@ -25,9 +25,9 @@ module _ (words rest once a b : ℕ) where
   pub told : fits words rest once a b ≡ true → Fit words rest once a b
   unfolding fits
   told h =
-      let p = both (leb once 4225 && leb a 4225 && leb b 4225) (eqb words (rest + once + 2 * (a + b))) h in
-      let q = both (leb once 4225 && leb a 4225) (leb b 4225) (p .0) in
-      let s = both (leb once 4225) (leb a 4225) (q .0) in
+      let p = both (leb once 8320 && leb a 8320 && leb b 8320) (eqb words (rest + once + 2 * (a + b))) h in
+      let q = both (leb once 8320 && leb a 8320) (leb b 8320) (p .0) in
+      let s = both (leb once 8320) (leb a 8320) (q .0) in
       record { given = leb-true _ _ (s .0); first = leb-true _ _ (s .1); second = leb-true _ _ (q .1); all = eqb-true _ _ (p .1) }
 
   -- what the call of `fits` answered, and the branch after it
@@ -45,5 +45,5 @@ module _ (words rest once a b : ℕ) where
   unfolding fits
   short h = rw (ne-eqb words (rest + once + 2 * (a + b)) (λ e. omega arith), and-false)
 
-pub front : (k : ℕ) (room : List Float) → 4225 ≡ length room → k ≤ 4225 → length (take k room) ≡ k
+pub front : (k : ℕ) (room : List Float) → 8320 ≡ length room → k ≤ 8320 → length (take k room) ≡ k
 front k room e h = length-take-le k room (omega arith)

@@ -8,26 +8,26 @@ ghost use Rattle.replay_forms.specs.Lines as Lines;
 use bits::float::floats_of;
 use replay_text::float::are_words;
 
-// Room for a form of 65 rows, one more than a call takes.
-pub fn room() -> [f64; 4225]
-    ensures { λ r. ⌜ (r ≡ replicate 4225 (ofBits binary64 0)) × (4225 ≡ length r) ⌝ }
+// Room for 65 columns, one more than a call takes, 128 places apart.
+pub fn room() -> [f64; 8320]
+    ensures { λ r. ⌜ (r ≡ replicate 8320 (ofBits binary64 0)) × (8320 ≡ length r) ⌝ }
 {
-    [0.0; 4225]
+    [0.0; 8320]
 }
 
-// Whether so many words are `rest` and buffers of no more than 65 rows: one of `once` numbers that
+// Whether so many words are `rest` and buffers that a room holds: one of `once` numbers that
 // is given, and two of a and b numbers that are given and expected.
 pub fn fits(words: usize, rest: usize, once: usize, a: usize, b: usize) -> bool
-    requires { ⌜ rest ≤ 9 ⌝ }
+    requires { ⌜ rest ≤ 10 ⌝ }
     ensures { λ r. ⌜ r ≡ Lines.fits words rest once a b ⌝ }
 {
-    if once > 4225 {
+    if once > 8320 {
         return false;
     }
-    if a > 4225 {
+    if a > 8320 {
         return false;
     }
-    if b > 4225 {
+    if b > 8320 {
         return false;
     }
     words == rest + once + 2 * (a + b)

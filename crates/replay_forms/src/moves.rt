@@ -11,21 +11,22 @@ use crate::two::on_two;
 use replay_text::outcome::Outcome;
 
 // The move of a line, in a form and a factor of the right lengths.
-pub fn same_move(w: &[u64], t: &mut [f64], u: &mut [f64]) -> bool
-    requires { ⌜ (length (now t) ≤ 4225) × (length (now u) ≤ 4225) × (length (now w) ≡ 9 + 2 * (length (now t) + length (now u))) ⌝ }
-    ensures { λ r. ⌜ (r ≡ Lines.sameMove (now (w .entry)) (length (now (t .entry))) (length (now (u .entry))))
-        × (now (t .exit) ≡ Lines.moveIn (now (w .entry)) (length (now (t .entry))) (length (now (u .entry))) .form)
-        × (now (u .exit) ≡ Lines.moveIn (now (w .entry)) (length (now (t .entry))) (length (now (u .entry))) .factor) ⌝ }
+pub fn same_move(more: usize, w: &[u64], t: &mut [f64], u: &mut [f64]) -> bool
+    requires { ⌜ (length (now t) ≤ 8320) × (length (now u) ≤ 8320) × (more ≤ 1) × (length (now w) ≡ 9 + more + 2 * (length (now t) + length (now u))) ⌝ }
+    ensures { λ r. ⌜ (r ≡ Lines.sameMove more (now (w .entry)) (length (now (t .entry))) (length (now (u .entry))))
+        × (now (t .exit) ≡ Lines.moveIn more (now (w .entry)) (length (now (t .entry))) (length (now (u .entry))) .form)
+        × (now (u .exit) ≡ Lines.moveIn more (now (w .entry)) (length (now (t .entry))) (length (now (u .entry))) .factor) ⌝ }
 {
     let a = t.len();
     let b = u.len();
-    fill(&mut *t, w, 5);
-    fill(&mut *u, w, 5 + a);
+    fill(&mut *t, w, 5 + more);
+    fill(&mut *u, w, 5 + more + a);
     let n = w[2] as usize;
-    let from = w[3] as usize;
-    let to = w[4] as usize;
-    let r = schur::reorder::reorder_schur(n, &mut *t, &mut *u, from, to);
-    let e = 5 + a + b;
+    let ld = w[2 + more] as usize;
+    let from = w[3 + more] as usize;
+    let to = w[4 + more] as usize;
+    let r = schur::reorder::reorder_schur(n, ld, &mut *t, &mut *u, from, to);
+    let e = 5 + more + a + b;
     let answer = r.answer as u64 == w[e];
     let landed = r.landed as u64 == w[e + 1];
     let swaps = r.swaps as u64 == w[e + 2];
@@ -35,30 +36,32 @@ pub fn same_move(w: &[u64], t: &mut [f64], u: &mut [f64]) -> bool
     answer & landed & swaps & declined & form & factor
 }
 
-// Two lengths, n from to, form, factor; answer landed swaps declined, form, factor.
-pub fn reorder_schur(w: &[u64]) -> Outcome
-    ensures { λ r. ⌜ r ≡ Lines.reorderSchur (now (w .entry)) ⌝ }
+// Two lengths, n, the stride if it is given, from to, form, factor; answer landed swaps declined, form, factor.
+pub fn reorder_schur(more: usize, w: &[u64]) -> Outcome
+    requires { ⌜ more ≤ 1 ⌝ }
+    ensures { λ r. ⌜ r ≡ Lines.reorderSchur more (now (w .entry)) ⌝ }
 {
-    on_two(Call::Move, w)
+    on_two(more, Call::Move, w)
 }
 
 // The exchange of a line, in a form and a factor of the right lengths.
-pub fn same_exchange(w: &[u64], t: &mut [f64], u: &mut [f64]) -> bool
-    requires { ⌜ (length (now t) ≤ 4225) × (length (now u) ≤ 4225) × (length (now w) ≡ 9 + 2 * (length (now t) + length (now u))) ⌝ }
-    ensures { λ r. ⌜ (r ≡ Lines.sameExchange (now (w .entry)) (length (now (t .entry))) (length (now (u .entry))))
-        × (now (t .exit) ≡ Lines.exchangeIn (now (w .entry)) (length (now (t .entry))) (length (now (u .entry))) .form)
-        × (now (u .exit) ≡ Lines.exchangeIn (now (w .entry)) (length (now (t .entry))) (length (now (u .entry))) .factor) ⌝ }
+pub fn same_exchange(more: usize, w: &[u64], t: &mut [f64], u: &mut [f64]) -> bool
+    requires { ⌜ (length (now t) ≤ 8320) × (length (now u) ≤ 8320) × (more ≤ 1) × (length (now w) ≡ 9 + more + 2 * (length (now t) + length (now u))) ⌝ }
+    ensures { λ r. ⌜ (r ≡ Lines.sameExchange more (now (w .entry)) (length (now (t .entry))) (length (now (u .entry))))
+        × (now (t .exit) ≡ Lines.exchangeIn more (now (w .entry)) (length (now (t .entry))) (length (now (u .entry))) .form)
+        × (now (u .exit) ≡ Lines.exchangeIn more (now (w .entry)) (length (now (t .entry))) (length (now (u .entry))) .factor) ⌝ }
 {
     let a = t.len();
     let b = u.len();
-    fill(&mut *t, w, 6);
-    fill(&mut *u, w, 6 + a);
+    fill(&mut *t, w, 6 + more);
+    fill(&mut *u, w, 6 + more + a);
     let n = w[2] as usize;
-    let j0 = w[3] as usize;
-    let n1 = w[4] as usize;
-    let n2 = w[5] as usize;
-    let r = schur::swap::schur_swap(n, &mut *t, &mut *u, j0, n1, n2);
-    let e = 6 + a + b;
+    let ld = w[2 + more] as usize;
+    let j0 = w[3 + more] as usize;
+    let n1 = w[4 + more] as usize;
+    let n2 = w[5 + more] as usize;
+    let r = schur::swap::schur_swap(n, ld, &mut *t, &mut *u, j0, n1, n2);
+    let e = 6 + more + a + b;
     let answer = r.answer as u64 == w[e];
     let swaps = r.swaps as u64 == w[e + 1];
     let declined = r.declined as u64 == w[e + 2];
@@ -67,9 +70,10 @@ pub fn same_exchange(w: &[u64], t: &mut [f64], u: &mut [f64]) -> bool
     answer & swaps & declined & form & factor
 }
 
-// Two lengths, n j0 n1 n2, form, factor; answer swaps declined, form, factor.
-pub fn schur_swap(w: &[u64]) -> Outcome
-    ensures { λ r. ⌜ r ≡ Lines.schurSwap (now (w .entry)) ⌝ }
+// Two lengths, n, the stride if it is given, j0 n1 n2, form, factor; answer swaps declined, form, factor.
+pub fn schur_swap(more: usize, w: &[u64]) -> Outcome
+    requires { ⌜ more ≤ 1 ⌝ }
+    ensures { λ r. ⌜ r ≡ Lines.schurSwap more (now (w .entry)) ⌝ }
 {
-    on_two(Call::Exchange, w)
+    on_two(more, Call::Exchange, w)
 }

@@ -2,6 +2,7 @@
 // vectors. Both buffers are lent to the call, and its outcome is judged.
 ghost use mathlib.Core.Path.{_≡_};
 ghost use mathlib.Core.Bool.{true};
+ghost use Prim.Native.Nat.{_≤_};
 ghost use lib.ListN.{length};
 ghost use Rattle.replay_forms.specs.Lines as Lines;
 use crate::buffers::fits;
@@ -20,41 +21,43 @@ pub enum Call {
 }
 
 // Whether so many words are a line of the call with buffers of a and b numbers.
-fn fits_two(call: Call, words: usize, a: usize, b: usize) -> bool
-    ensures { λ r. ⌜ r ≡ Lines.fitsTwo call words a b ⌝ }
+fn fits_two(more: usize, call: Call, words: usize, a: usize, b: usize) -> bool
+    requires { ⌜ more ≤ 1 ⌝ }
+    ensures { λ r. ⌜ r ≡ Lines.fitsTwo more call words a b ⌝ }
 {
     match call {
-        Call::Move => fits(words, 9, 0, a, b),
-        Call::Exchange => fits(words, 9, 0, a, b),
-        Call::Vectors => fits(words, 4, a, b, 0),
+        Call::Move => fits(words, 9 + more, 0, a, b),
+        Call::Exchange => fits(words, 9 + more, 0, a, b),
+        Call::Vectors => fits(words, 4 + more, a, b, 0),
     }
 }
 
 // The call of a line, in buffers of the right lengths.
-fn same(call: Call, w: &[u64], t: &mut [f64], u: &mut [f64]) -> bool
-    requires { ⌜ Lines.fitsTwo call (length (now w)) (length (now t)) (length (now u)) ≡ true ⌝ }
-    ensures { λ r. ⌜ (record { same = r; first = now (t .exit); second = now (u .exit) }) ≡ Lines.two call (now (w .entry)) (length (now (t .entry))) (length (now (u .entry))) ⌝ }
+fn same(more: usize, call: Call, w: &[u64], t: &mut [f64], u: &mut [f64]) -> bool
+    requires { ⌜ (more ≤ 1) × (Lines.fitsTwo more call (length (now w)) (length (now t)) (length (now u)) ≡ true) ⌝ }
+    ensures { λ r. ⌜ (record { same = r; first = now (t .exit); second = now (u .exit) }) ≡ Lines.two more call (now (w .entry)) (length (now (t .entry))) (length (now (u .entry))) ⌝ }
 {
     match call {
-        Call::Move => same_move(w, t, u),
-        Call::Exchange => same_exchange(w, t, u),
-        Call::Vectors => same_vectors(w, t, u),
+        Call::Move => same_move(more, w, t, u),
+        Call::Exchange => same_exchange(more, w, t, u),
+        Call::Vectors => same_vectors(more, w, t, u),
     }
 }
 
 // A line of such a call: its two lengths first.
-pub fn on_two(call: Call, w: &[u64]) -> Outcome
-    ensures { λ r. ⌜ r ≡ Lines.onTwo call (now (w .entry)) ⌝ }
+pub fn on_two(more: usize, call: Call, w: &[u64]) -> Outcome
+    requires { ⌜ more ≤ 1 ⌝ }
+    ensures { λ r. ⌜ r ≡ Lines.onTwo more call (now (w .entry)) ⌝ }
 {
     if w.len() < 2 {
         return Outcome::Malformed;
     }
     let a = w[0] as usize;
     let b = w[1] as usize;
-    if !fits_two(call, w.len(), a, b) {
+    if !fits_two(more, call, w.len(), a, b) {
         return Outcome::Malformed;
     }
     let mut t = room();
     let mut u = room();
-    judge(same(call, w, &mut t[..a], &mut u[..b]))
+    judge(same(more, call, w, &mut t[..a], &mut u[..b]))
 }

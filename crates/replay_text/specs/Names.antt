@@ -32,11 +32,16 @@ names =
     ∷ ascii "block_values                "
     ∷ ascii "evd_from_real_schur         "
     ∷ ascii "column                      "
+    ∷ ascii "schur_swap_ld               "
+    ∷ ascii "reorder_schur_ld            "
+    ∷ ascii "block_values_ld             "
+    ∷ ascii "evd_from_real_schur_ld      "
+    ∷ ascii "column_ld                   "
     ∷ []
 
 -- how many calls there are; also the number of what is no call
 abbrev pub calls : ℕ
-calls = 21
+calls = 26
 
 -- spaces for what is no call
 abbrev pub nameOf : ℕ → List ℕ

@@ -3,10 +3,10 @@ ghost use mathlib.Core.Path.{_≡_};
 ghost use Rattle.replay_text.specs.Names as Names;
 
 // How many calls there are. It is also the number of what is no call.
-pub const CALLS: usize = 21;
+pub const CALLS: usize = 26;
 
 // The rows of the counts: one of each call, and one of what is no call.
-pub const ROWS: usize = 22;
+pub const ROWS: usize = 27;
 
 // The name of a call, with spaces after it; what is no call has none.
 pub fn name_of(call: usize) -> [u8; 28]
@@ -34,6 +34,11 @@ pub fn name_of(call: usize) -> [u8; 28]
         18 => *b"block_values                ",
         19 => *b"evd_from_real_schur         ",
         20 => *b"column                      ",
+        21 => *b"schur_swap_ld               ",
+        22 => *b"reorder_schur_ld            ",
+        23 => *b"block_values_ld             ",
+        24 => *b"evd_from_real_schur_ld      ",
+        25 => *b"column_ld                   ",
         _ => [b' '; 28],
     }
 }

@@ -12,73 +12,73 @@ use Rattle.schur.specs.Stands.{Stands}
 use Rattle.schur.proofs.Ways.{stands-as}
 
 -- ---- down
-pub record Downward (n goal : ℕ) (u₀ t u : List Float) (h b s d : ℕ) (whole : Move.Moving) : Type 0 where
+pub record Downward (ld n goal : ℕ) (u₀ t u : List Float) (h b s d : ℕ) (whole : Move.Moving) : Type 0 where
   pub k : ℕ
   pub on : Move.Moving
   pub near : goal ≤ h + k
-  pub stands : Stands n u₀ t u h b s d on
-  pub gives : Move.downBy k binary64 n n goal on ≡ whole
+  pub stands : Stands ld n u₀ t u h b s d on
+  pub gives : Move.downBy k binary64 ld n goal on ≡ whole
 
-down-more : (n goal k : ℕ) (M : Move.Moving) → M .here < goal → Move.downBy (suc k) binary64 n n goal M ≡ Move.downBy k binary64 n n goal (Move.downStep binary64 n n M)
+down-more : (ld n goal k : ℕ) (M : Move.Moving) → M .here < goal → Move.downBy (suc k) binary64 ld n goal M ≡ Move.downBy k binary64 ld n goal (Move.downStep binary64 ld n M)
 unfolding Move.downBy
-down-more n goal k M e = rw (lt-ltb (M .here) goal e)
+down-more ld n goal k M e = rw (lt-ltb (M .here) goal e)
 
-down-stays : (n goal k : ℕ) (M : Move.Moving) → goal ≤ M .here → Move.downBy k binary64 n n goal M ≡ M
+down-stays : (ld n goal k : ℕ) (M : Move.Moving) → goal ≤ M .here → Move.downBy k binary64 ld n goal M ≡ M
 unfolding Move.downBy
-down-stays n goal zero M e = refl
-down-stays n goal (suc k) M e = rw (le-ltb (M .here) goal e)
+down-stays ld n goal zero M e = refl
+down-stays ld n goal (suc k) M e = rw (le-ltb (M .here) goal e)
 
-pub down-on : {n goal : ℕ} {u₀ t u t₁ u₁ : List Float} {h b s d h₁ b₁ s₁ d₁ : ℕ} {whole : Move.Moving} → Downward n goal u₀ t u h b s d whole → h < goal → h < h₁
-    → ((v : List Float) (M : Move.Moving) → Stands n v t u h b s d M → Stands n v t₁ u₁ h₁ b₁ s₁ d₁ (Move.downStep binary64 n n M))
-    → Downward n goal u₀ t₁ u₁ h₁ b₁ s₁ d₁ whole
-down-on {n} {goal} {u₀} {t} {u} {t₁} {u₁} {h} {b} {s} {d} {h₁} {b₁} {s₁} {d₁} {whole} w l g f = go (w .k) (w .near) (w .gives)
+pub down-on : {ld n goal : ℕ} {u₀ t u t₁ u₁ : List Float} {h b s d h₁ b₁ s₁ d₁ : ℕ} {whole : Move.Moving} → Downward ld n goal u₀ t u h b s d whole → h < goal → h < h₁
+    → ((v : List Float) (M : Move.Moving) → Stands ld n v t u h b s d M → Stands ld n v t₁ u₁ h₁ b₁ s₁ d₁ (Move.downStep binary64 ld n M))
+    → Downward ld n goal u₀ t₁ u₁ h₁ b₁ s₁ d₁ whole
+down-on {ld} {n} {goal} {u₀} {t} {u} {t₁} {u₁} {h} {b} {s} {d} {h₁} {b₁} {s₁} {d₁} {whole} w l g f = go (w .k) (w .near) (w .gives)
   where
-    go : (k : ℕ) → goal ≤ h + k → Move.downBy k binary64 n n goal (w .on) ≡ whole → Downward n goal u₀ t₁ u₁ h₁ b₁ s₁ d₁ whole
+    go : (k : ℕ) → goal ≤ h + k → Move.downBy k binary64 ld n goal (w .on) ≡ whole → Downward ld n goal u₀ t₁ u₁ h₁ b₁ s₁ d₁ whole
     go zero e i = absurd (omega arith)
     go (suc k) e i =
         record {
           k = k;
-          on = Move.downStep binary64 n n (w .on);
+          on = Move.downStep binary64 ld n (w .on);
           near = omega arith;
           stands = f u₀ (w .on) (w .stands);
-          gives = sym (down-more n goal k (w .on) (let q = w .stands .here in omega arith)) ∙ i;
+          gives = sym (down-more ld n goal k (w .on) (let q = w .stands .here in omega arith)) ∙ i;
         }
 
-pub down-end : {n goal : ℕ} {u₀ t u : List Float} {h b s d : ℕ} {whole : Move.Moving} → Downward n goal u₀ t u h b s d whole → goal ≤ h → Stands n u₀ t u h b s d whole
-down-end {n} {goal} w l = stands-as (sym (down-stays n goal (w .k) (w .on) (let q = w .stands .here in omega arith)) ∙ w .gives) (w .stands)
+pub down-end : {ld n goal : ℕ} {u₀ t u : List Float} {h b s d : ℕ} {whole : Move.Moving} → Downward ld n goal u₀ t u h b s d whole → goal ≤ h → Stands ld n u₀ t u h b s d whole
+down-end {ld} {n} {goal} w l = stands-as (sym (down-stays ld n goal (w .k) (w .on) (let q = w .stands .here in omega arith)) ∙ w .gives) (w .stands)
 
 -- ---- up
-pub record Upward (n goal : ℕ) (u₀ t u : List Float) (h b s d : ℕ) (whole : Move.Moving) : Type 0 where
+pub record Upward (ld n goal : ℕ) (u₀ t u : List Float) (h b s d : ℕ) (whole : Move.Moving) : Type 0 where
   pub k : ℕ
   pub on : Move.Moving
   pub near : h ≤ goal + k
-  pub stands : Stands n u₀ t u h b s d on
-  pub gives : Move.upBy k binary64 n n goal on ≡ whole
+  pub stands : Stands ld n u₀ t u h b s d on
+  pub gives : Move.upBy k binary64 ld n goal on ≡ whole
 
-up-more : (n goal k : ℕ) (M : Move.Moving) → goal < M .here → Move.upBy (suc k) binary64 n n goal M ≡ Move.upBy k binary64 n n goal (Move.upStep binary64 n n M)
+up-more : (ld n goal k : ℕ) (M : Move.Moving) → goal < M .here → Move.upBy (suc k) binary64 ld n goal M ≡ Move.upBy k binary64 ld n goal (Move.upStep binary64 ld n M)
 unfolding Move.upBy
-up-more n goal k M e = rw (lt-ltb goal (M .here) e)
+up-more ld n goal k M e = rw (lt-ltb goal (M .here) e)
 
-up-stays : (n goal k : ℕ) (M : Move.Moving) → M .here ≤ goal → Move.upBy k binary64 n n goal M ≡ M
+up-stays : (ld n goal k : ℕ) (M : Move.Moving) → M .here ≤ goal → Move.upBy k binary64 ld n goal M ≡ M
 unfolding Move.upBy
-up-stays n goal zero M e = refl
-up-stays n goal (suc k) M e = rw (le-ltb goal (M .here) e)
+up-stays ld n goal zero M e = refl
+up-stays ld n goal (suc k) M e = rw (le-ltb goal (M .here) e)
 
-pub up-on : {n goal : ℕ} {u₀ t u t₁ u₁ : List Float} {h b s d h₁ b₁ s₁ d₁ : ℕ} {whole : Move.Moving} → Upward n goal u₀ t u h b s d whole → goal < h → h₁ < h
-    → ((v : List Float) (M : Move.Moving) → Stands n v t u h b s d M → Stands n v t₁ u₁ h₁ b₁ s₁ d₁ (Move.upStep binary64 n n M))
-    → Upward n goal u₀ t₁ u₁ h₁ b₁ s₁ d₁ whole
-up-on {n} {goal} {u₀} {t} {u} {t₁} {u₁} {h} {b} {s} {d} {h₁} {b₁} {s₁} {d₁} {whole} w l g f = go (w .k) (w .near) (w .gives)
+pub up-on : {ld n goal : ℕ} {u₀ t u t₁ u₁ : List Float} {h b s d h₁ b₁ s₁ d₁ : ℕ} {whole : Move.Moving} → Upward ld n goal u₀ t u h b s d whole → goal < h → h₁ < h
+    → ((v : List Float) (M : Move.Moving) → Stands ld n v t u h b s d M → Stands ld n v t₁ u₁ h₁ b₁ s₁ d₁ (Move.upStep binary64 ld n M))
+    → Upward ld n goal u₀ t₁ u₁ h₁ b₁ s₁ d₁ whole
+up-on {ld} {n} {goal} {u₀} {t} {u} {t₁} {u₁} {h} {b} {s} {d} {h₁} {b₁} {s₁} {d₁} {whole} w l g f = go (w .k) (w .near) (w .gives)
   where
-    go : (k : ℕ) → h ≤ goal + k → Move.upBy k binary64 n n goal (w .on) ≡ whole → Upward n goal u₀ t₁ u₁ h₁ b₁ s₁ d₁ whole
+    go : (k : ℕ) → h ≤ goal + k → Move.upBy k binary64 ld n goal (w .on) ≡ whole → Upward ld n goal u₀ t₁ u₁ h₁ b₁ s₁ d₁ whole
     go zero e i = absurd (omega arith)
     go (suc k) e i =
         record {
           k = k;
-          on = Move.upStep binary64 n n (w .on);
+          on = Move.upStep binary64 ld n (w .on);
           near = omega arith;
           stands = f u₀ (w .on) (w .stands);
-          gives = sym (up-more n goal k (w .on) (let q = w .stands .here in omega arith)) ∙ i;
+          gives = sym (up-more ld n goal k (w .on) (let q = w .stands .here in omega arith)) ∙ i;
         }
 
-pub up-end : {n goal : ℕ} {u₀ t u : List Float} {h b s d : ℕ} {whole : Move.Moving} → Upward n goal u₀ t u h b s d whole → h ≤ goal → Stands n u₀ t u h b s d whole
-up-end {n} {goal} w l = stands-as (sym (up-stays n goal (w .k) (w .on) (let q = w .stands .here in omega arith)) ∙ w .gives) (w .stands)
+pub up-end : {ld n goal : ℕ} {u₀ t u : List Float} {h b s d : ℕ} {whole : Move.Moving} → Upward ld n goal u₀ t u h b s d whole → h ≤ goal → Stands ld n u₀ t u h b s d whole
+up-end {ld} {n} {goal} w l = stands-as (sym (up-stays ld n goal (w .k) (w .on) (let q = w .stands .here in omega arith)) ∙ w .gives) (w .stands)

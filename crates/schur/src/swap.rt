@@ -17,15 +17,16 @@ pub struct Exchanged {
 // The exchange of the n1 rows from row j0 on with the n2 below them.
 pub fn schur_swap(
     n: usize,
+    ld: usize,
     t: &mut [f64],
     u: &mut [f64],
     j0: usize,
     n1: usize,
     n2: usize,
 ) -> Exchanged
-    ensures { λ r. ⌜ exchanged r (now (t .exit)) (now (u .exit)) ≡ Exchange.exchangeCall binary64 n n (now (t .entry)) (now (u .entry)) j0 n1 n2 ⌝ }
+    ensures { λ r. ⌜ exchanged r (now (t .exit)) (now (u .exit)) ≡ Exchange.exchangeCall binary64 ld n (now (t .entry)) (now (u .entry)) j0 n1 n2 ⌝ }
 {
-    let line = exchange_line(n, &*t, &*u, j0, n1, n2);
+    let line = exchange_line(ld, n, &*t, &*u, j0, n1, n2);
     if line != 0 {
         return Exchanged {
             answer: line,
@@ -33,7 +34,7 @@ pub fn schur_swap(
             declined: 0,
         };
     }
-    let c = exchange(&mut *t, &mut *u, n, j0, n1, n2);
+    let c = exchange(&mut *t, &mut *u, ld, n, j0, n1, n2);
     Exchanged {
         answer: 0,
         swaps: c.swaps,

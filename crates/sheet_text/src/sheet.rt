@@ -169,7 +169,7 @@ fn move_and_print(
         × (now (x .exit) ≡ moveCall binary64 n n (now (x .entry)) (now (y .entry)) from to .form)
         × (now (y .exit) ≡ moveCall binary64 n n (now (x .entry)) (now (y .entry)) from to .factor) ⌝ }
 {
-    let m = reorder_schur(n, x, y, from, to);
+    let m = reorder_schur(n, n, x, y, from, to);
     print_moved(out, m.answer, m.landed, m.swaps, m.declined, x, y)
 }
 

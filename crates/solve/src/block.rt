@@ -1,8 +1,6 @@
-// What the calls share: the lines with a further buffer, places of a square, a 2-block's size.
+// What the calls share: places of a square, a 2-block's numbers and sizes.
 ghost use mathlib.Core.Path.{_≡_};
-ghost use mathlib.Core.Bool.{Bool, cond};
 ghost use Prim.Native.Nat.{_+_, _-_, _*_, _<_, _≤_};
-ghost use lib.Dec.{eqb};
 ghost use lib.Ieee.{binary64};
 ghost use Rattle.model.specs.Form.{entry};
 ghost use Rattle.model.specs.Move as Move;
@@ -11,19 +9,6 @@ ghost use Rattle.solve.specs.Sizes.{Square};
 use arith::real::abs;
 use form::place;
 use root::sqrt::sqrt;
-
-// The first line that applies, of the line of a form alone and of a further buffer's length.
-pub fn with_further(line: usize, wrong: bool) -> usize
-    ensures { λ r. ⌜ r ≡ cond (eqb line 2) 2 (cond (eqb line 3) 3 (cond wrong 4 line)) ⌝ }
-{
-    if line == 2 {
-        return 2;
-    }
-    if line == 3 {
-        return 3;
-    }
-    if wrong { 4 } else { line }
-}
 
 // Where the rest of row i starts, from column j on: nothing is left of it where j is n.
 pub fn row_start(ld: usize, n: usize, i: usize, j: usize) -> usize

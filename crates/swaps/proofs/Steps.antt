@@ -19,22 +19,22 @@ same-rows : (n : ℕ) (u v : List Float) → length u ≡ length v → factorRow
 unfolding factorRows
 same-rows n u v e = rw e
 
-pub done-then : {n : ℕ} {u t₁ u₁ t₂ u₂ : List Float} {c : Change} (next : List Float → Change)
-    → Done n u t₁ u₁ c → length u₁ ≡ length u → Done n u₁ t₂ u₂ (next t₁) → Done n u t₂ u₂ (andThen c next)
+pub done-then : {ld n : ℕ} {u t₁ u₁ t₂ u₂ : List Float} {c : Change} (next : List Float → Change)
+    → Done ld n u t₁ u₁ c → length u₁ ≡ length u → Done ld n u₁ t₂ u₂ (next t₁) → Done ld n u t₂ u₂ (andThen c next)
 unfolding andThen
-done-then {n} {u} {t₁} {u₁} {t₂} {u₂} {c} next a e b =
+done-then {ld} {n} {u} {t₁} {u₁} {t₂} {u₂} {c} next a e b =
     record {
       form = b .form ∙ ap (λ (t : List Float). next t .form) (a .form);
       factor =
           b .factor
-          ∙ ap (λ (k : ℕ). onFactor binary64 n k (next t₁ .operations) u₁) (same-rows n u₁ u e)
-          ∙ ap (λ (v : List Float). onFactor binary64 n (factorRows n u) (next t₁ .operations) v) (a .factor)
-          ∙ ap (λ (t : List Float). onFactor binary64 n (factorRows n u) (next t .operations) (onFactor binary64 n (factorRows n u) (c .operations) u)) (a .form)
-          ∙ sym (onFactor-append binary64 n (factorRows n u) (c .operations) (next (c .form) .operations) u);
+          ∙ ap (λ (k : ℕ). onFactor binary64 ld k (next t₁ .operations) u₁) (same-rows n u₁ u e)
+          ∙ ap (λ (v : List Float). onFactor binary64 ld (factorRows n u) (next t₁ .operations) v) (a .factor)
+          ∙ ap (λ (t : List Float). onFactor binary64 ld (factorRows n u) (next t .operations) (onFactor binary64 ld (factorRows n u) (c .operations) u)) (a .form)
+          ∙ sym (onFactor-append binary64 ld (factorRows n u) (c .operations) (next (c .form) .operations) u);
     }
 
-pub step-then : {n : ℕ} {u t₁ u₁ t₂ u₂ : List Float} {s₁ d₁ s₂ d₂ : ℕ} {c : Change} (next : List Float → Change)
-    → Step n u t₁ u₁ s₁ d₁ c → length u₁ ≡ length u → Step n u₁ t₂ u₂ s₂ d₂ (next t₁) → Step n u t₂ u₂ (s₁ + s₂) (d₁ + d₂) (andThen c next)
+pub step-then : {ld n : ℕ} {u t₁ u₁ t₂ u₂ : List Float} {s₁ d₁ s₂ d₂ : ℕ} {c : Change} (next : List Float → Change)
+    → Step ld n u t₁ u₁ s₁ d₁ c → length u₁ ≡ length u → Step ld n u₁ t₂ u₂ s₂ d₂ (next t₁) → Step ld n u t₂ u₂ (s₁ + s₂) (d₁ + d₂) (andThen c next)
 step-then {c = c} next a e b =
     record {
       done = done-then next (a .done) e (b .done);

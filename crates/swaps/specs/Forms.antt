@@ -11,22 +11,22 @@ use Rattle.model.specs.Swaps.{put}
 
 -- zero in row i, column j
 abbrev pub clear : ℕ → ℕ → ℕ → List Float → List Float
-clear n i j t = put n i j (zeroOf binary64) t
+clear ld i j t = put ld i j (zeroOf binary64) t
 
-abbrev pub form11 : ℕ → ℕ → Rotation → List Float → List Float
-form11 n j r t = onForm binary64 n n (j + 2) j (rotates r j (j + 1)) (put n j j (entry n t (j + 1) (j + 1)) (put n (j + 1) (j + 1) (entry n t j j) t))
+abbrev pub form11 : ℕ → ℕ → ℕ → Rotation → List Float → List Float
+form11 ld n j r t = onForm binary64 ld n (j + 2) j (rotates r j (j + 1)) (put ld j j (entry ld t (j + 1) (j + 1)) (put ld (j + 1) (j + 1) (entry ld t j j) t))
 
-abbrev pub form12 : ℕ → ℕ → Reflect3 → List Float → List Float
-form12 n j v t = clear n (j + 2) (j + 1) (clear n (j + 2) j (onForm binary64 n n j (j + 3) (reflects3 v j (j + 1) (j + 2)) t))
+abbrev pub form12 : ℕ → ℕ → ℕ → Reflect3 → List Float → List Float
+form12 ld n j v t = clear ld (j + 2) (j + 1) (clear ld (j + 2) j (onForm binary64 ld n j (j + 3) (reflects3 v j (j + 1) (j + 2)) t))
 
-abbrev pub form21 : ℕ → ℕ → Reflect3 → List Float → List Float
-form21 n j v t = clear n (j + 2) j (clear n (j + 1) j (onForm binary64 n n j (j + 3) (reflects3 v (j + 2) (j + 1) j) t))
+abbrev pub form21 : ℕ → ℕ → ℕ → Reflect3 → List Float → List Float
+form21 ld n j v t = clear ld (j + 2) j (clear ld (j + 1) j (onForm binary64 ld n j (j + 3) (reflects3 v (j + 2) (j + 1) j) t))
 
-abbrev pub form22 : ℕ → ℕ → Reflect4 → List Float → List Float
-form22 n j v t =
-    clear n (j + 3) (j + 1) (clear n (j + 3) j (clear n (j + 2) (j + 1) (clear n (j + 2) j (onForm binary64 n n j (j + 4) (reflects4 v j (j + 1) (j + 2) (j + 3)) t))))
+abbrev pub form22 : ℕ → ℕ → ℕ → Reflect4 → List Float → List Float
+form22 ld n j v t =
+    clear ld (j + 3) (j + 1) (clear ld (j + 3) j (clear ld (j + 2) (j + 1) (clear ld (j + 2) j (onForm binary64 ld n j (j + 4) (reflects4 v j (j + 1) (j + 2) (j + 3)) t))))
 
-abbrev pub standardForm : ℕ → ℕ → Block → List Float → List Float
-standardForm n j b t =
-    onForm binary64 n n (j + 2) j (rotates (record { c = b .cs; s = b .sn }) j (j + 1))
-    (put n (j + 1) (j + 1) (b .d) (put n (j + 1) j (b .c) (put n j (j + 1) (b .b) (put n j j (b .a) t))))
+abbrev pub standardForm : ℕ → ℕ → ℕ → Block → List Float → List Float
+standardForm ld n j b t =
+    onForm binary64 ld n (j + 2) j (rotates (record { c = b .cs; s = b .sn }) j (j + 1))
+    (put ld (j + 1) (j + 1) (b .d) (put ld (j + 1) j (b .c) (put ld j (j + 1) (b .b) (put ld j j (b .a) t))))

@@ -16,38 +16,38 @@ use schur22::lahqr_schur22::Block;
 use schur22::lahqr_schur22::lahqr_schur22;
 
 // The standard form of the block in rows j and j + 1.
-fn standard_block(t: &[f64], n: usize, j: usize) -> Block
-    requires { ⌜ Sized n (now t) × (j + 2 ≤ n) ⌝ }
-    ensures { λ r. ⌜ block r ≡ Swaps.blockAt binary64 n (now (t .entry)) j ⌝ }
+fn standard_block(t: &[f64], ld: usize, n: usize, j: usize) -> Block
+    requires { ⌜ Sized ld n (now t) × (j + 2 ≤ n) ⌝ }
+    ensures { λ r. ⌜ block r ≡ Swaps.blockAt binary64 ld (now (t .entry)) j ⌝ }
 {
-    let a = get(t, n, j, j);
-    let b = get(t, n, j, j + 1);
-    let c = get(t, n, j + 1, j);
-    let d = get(t, n, j + 1, j + 1);
+    let a = get(t, ld, n, j, j);
+    let b = get(t, ld, n, j, j + 1);
+    let c = get(t, ld, n, j + 1, j);
+    let d = get(t, ld, n, j + 1, j + 1);
     let s = lahqr_schur22(a, b, c, d);
     s.block
 }
 
 // The form with the block b in rows j and j + 1, and what lies right of and above it rotated.
-fn standard_form(t: &mut [f64], n: usize, j: usize, b: Block)
-    requires { ⌜ Sized n (now t) × (j + 2 ≤ n) ⌝ }
-    ensures { λ _. ⌜ now (t .exit) ≡ standardForm n j (block b) (now (t .entry)) ⌝ }
+fn standard_form(t: &mut [f64], ld: usize, n: usize, j: usize, b: Block)
+    requires { ⌜ Sized ld n (now t) × (j + 2 ≤ n) ⌝ }
+    ensures { λ _. ⌜ now (t .exit) ≡ standardForm ld n j (block b) (now (t .entry)) ⌝ }
 {
-    put(&mut *t, n, j, j, b.a);
-    put(&mut *t, n, j, j + 1, b.b);
-    put(&mut *t, n, j + 1, j, b.c);
-    put(&mut *t, n, j + 1, j + 1, b.d);
+    put(&mut *t, ld, n, j, j, b.a);
+    put(&mut *t, ld, n, j, j + 1, b.b);
+    put(&mut *t, ld, n, j + 1, j, b.c);
+    put(&mut *t, ld, n, j + 1, j + 1, b.d);
     let rot = JacobiRotation { c: b.cs, s: b.sn };
-    rotate_form(&mut *t, n, rot, j, j + 1, j + 2, j);
+    rotate_form(&mut *t, ld, n, rot, j, j + 1, j + 2, j);
 }
 
 // The block in rows j and j + 1 standardised.
-pub fn standardise(t: &mut [f64], u: &mut [f64], n: usize, j: usize)
-    requires { ⌜ Sized n (now t) × Beside n (now u) × (j + 2 ≤ n) ⌝ }
-    ensures { λ _. ⌜ Done n (now (u .entry)) (now (t .exit)) (now (u .exit)) (Swaps.standardise binary64 n n j (now (t .entry))) ⌝ }
+pub fn standardise(t: &mut [f64], u: &mut [f64], ld: usize, n: usize, j: usize)
+    requires { ⌜ Sized ld n (now t) × Beside ld n (now u) × (j + 2 ≤ n) ⌝ }
+    ensures { λ _. ⌜ Done ld n (now (u .entry)) (now (t .exit)) (now (u .exit)) (Swaps.standardise binary64 ld n j (now (t .entry))) ⌝ }
 {
-    let b = standard_block(&*t, n, j);
-    standard_form(&mut *t, n, j, b);
+    let b = standard_block(&*t, ld, n, j);
+    standard_form(&mut *t, ld, n, j, b);
     let rot = JacobiRotation { c: b.cs, s: b.sn };
-    rotate_factor(&mut *u, n, rot, j, j + 1);
+    rotate_factor(&mut *u, ld, n, rot, j, j + 1);
 }

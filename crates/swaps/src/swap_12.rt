@@ -39,79 +39,79 @@ fn reflectors_3(a: Triple, b: Triple) -> Reflectors3
 }
 
 // The reflections that exchange row j with rows j + 1 and j + 2.
-fn reflectors_12(t: &[f64], n: usize, j: usize) -> Reflectors3
-    requires { ⌜ Sized n (now t) × (j + 3 ≤ n) ⌝ }
-    ensures { λ r. ⌜ reflection3 r ≡ Swaps.reflectors12 binary64 n (now (t .entry)) j ⌝ }
+fn reflectors_12(t: &[f64], ld: usize, n: usize, j: usize) -> Reflectors3
+    requires { ⌜ Sized ld n (now t) × (j + 3 ≤ n) ⌝ }
+    ensures { λ r. ⌜ reflection3 r ≡ Swaps.reflectors12 binary64 ld (now (t .entry)) j ⌝ }
 {
-    let t00 = get(t, n, j, j);
+    let t00 = get(t, ld, n, j, j);
     let a = Triple {
-        x0: get(t, n, j, j + 1),
-        x1: get(t, n, j + 1, j + 1) - t00,
-        x2: get(t, n, j + 2, j + 1),
+        x0: get(t, ld, n, j, j + 1),
+        x1: get(t, ld, n, j + 1, j + 1) - t00,
+        x2: get(t, ld, n, j + 2, j + 1),
     };
     let b = Triple {
-        x0: get(t, n, j, j + 2),
-        x1: get(t, n, j + 1, j + 2),
-        x2: get(t, n, j + 2, j + 2) - t00,
+        x0: get(t, ld, n, j, j + 2),
+        x1: get(t, ld, n, j + 1, j + 2),
+        x2: get(t, ld, n, j + 2, j + 2) - t00,
     };
     reflectors_3(a, b)
 }
 
 // The reflections that exchange rows j and j + 1 with row j + 2, in reversed order.
-fn reflectors_21(t: &[f64], n: usize, j: usize) -> Reflectors3
-    requires { ⌜ Sized n (now t) × (j + 3 ≤ n) ⌝ }
-    ensures { λ r. ⌜ reflection3 r ≡ Swaps.reflectors21 binary64 n (now (t .entry)) j ⌝ }
+fn reflectors_21(t: &[f64], ld: usize, n: usize, j: usize) -> Reflectors3
+    requires { ⌜ Sized ld n (now t) × (j + 3 ≤ n) ⌝ }
+    ensures { λ r. ⌜ reflection3 r ≡ Swaps.reflectors21 binary64 ld (now (t .entry)) j ⌝ }
 {
-    let t22 = get(t, n, j + 2, j + 2);
+    let t22 = get(t, ld, n, j + 2, j + 2);
     let a = Triple {
-        x0: get(t, n, j + 1, j + 2),
-        x1: get(t, n, j + 1, j + 1) - t22,
-        x2: get(t, n, j + 1, j),
+        x0: get(t, ld, n, j + 1, j + 2),
+        x1: get(t, ld, n, j + 1, j + 1) - t22,
+        x2: get(t, ld, n, j + 1, j),
     };
     let b = Triple {
-        x0: get(t, n, j, j + 2),
-        x1: get(t, n, j, j + 1),
-        x2: get(t, n, j, j) - t22,
+        x0: get(t, ld, n, j, j + 2),
+        x1: get(t, ld, n, j, j + 1),
+        x2: get(t, ld, n, j, j) - t22,
     };
     reflectors_3(a, b)
 }
 
 // The form after the exchange of row j with the two below it.
-fn form_12(t: &mut [f64], n: usize, j: usize, v: Reflectors3)
-    requires { ⌜ Sized n (now t) × (j + 3 ≤ n) ⌝ }
-    ensures { λ _. ⌜ now (t .exit) ≡ form12 n j (reflection3 v) (now (t .entry)) ⌝ }
+fn form_12(t: &mut [f64], ld: usize, n: usize, j: usize, v: Reflectors3)
+    requires { ⌜ Sized ld n (now t) × (j + 3 ≤ n) ⌝ }
+    ensures { λ _. ⌜ now (t .exit) ≡ form12 ld n j (reflection3 v) (now (t .entry)) ⌝ }
 {
-    reflect3_form(&mut *t, n, v, j, j + 1, j + 2, j, j + 3);
-    put(&mut *t, n, j + 2, j, 0.0);
-    put(&mut *t, n, j + 2, j + 1, 0.0);
+    reflect3_form(&mut *t, ld, n, v, j, j + 1, j + 2, j, j + 3);
+    put(&mut *t, ld, n, j + 2, j, 0.0);
+    put(&mut *t, ld, n, j + 2, j + 1, 0.0);
 }
 
 // The form after the exchange of rows j and j + 1 with the one below them.
-fn form_21(t: &mut [f64], n: usize, j: usize, v: Reflectors3)
-    requires { ⌜ Sized n (now t) × (j + 3 ≤ n) ⌝ }
-    ensures { λ _. ⌜ now (t .exit) ≡ form21 n j (reflection3 v) (now (t .entry)) ⌝ }
+fn form_21(t: &mut [f64], ld: usize, n: usize, j: usize, v: Reflectors3)
+    requires { ⌜ Sized ld n (now t) × (j + 3 ≤ n) ⌝ }
+    ensures { λ _. ⌜ now (t .exit) ≡ form21 ld n j (reflection3 v) (now (t .entry)) ⌝ }
 {
-    reflect3_form(&mut *t, n, v, j + 2, j + 1, j, j, j + 3);
-    put(&mut *t, n, j + 1, j, 0.0);
-    put(&mut *t, n, j + 2, j, 0.0);
+    reflect3_form(&mut *t, ld, n, v, j + 2, j + 1, j, j, j + 3);
+    put(&mut *t, ld, n, j + 1, j, 0.0);
+    put(&mut *t, ld, n, j + 2, j, 0.0);
 }
 
 // Row j exchanged with the 2-block below it.
-pub fn schur_swap_12(t: &mut [f64], u: &mut [f64], n: usize, j: usize)
-    requires { ⌜ Sized n (now t) × Beside n (now u) × (j + 3 ≤ n) ⌝ }
-    ensures { λ _. ⌜ Done n (now (u .entry)) (now (t .exit)) (now (u .exit)) (Swaps.swap12 binary64 n n j (now (t .entry))) ⌝ }
+pub fn schur_swap_12(t: &mut [f64], u: &mut [f64], ld: usize, n: usize, j: usize)
+    requires { ⌜ Sized ld n (now t) × Beside ld n (now u) × (j + 3 ≤ n) ⌝ }
+    ensures { λ _. ⌜ Done ld n (now (u .entry)) (now (t .exit)) (now (u .exit)) (Swaps.swap12 binary64 ld n j (now (t .entry))) ⌝ }
 {
-    let v = reflectors_12(&*t, n, j);
-    form_12(&mut *t, n, j, v);
-    reflect3_factor(&mut *u, n, v, j, j + 1, j + 2);
+    let v = reflectors_12(&*t, ld, n, j);
+    form_12(&mut *t, ld, n, j, v);
+    reflect3_factor(&mut *u, ld, n, v, j, j + 1, j + 2);
 }
 
 // The 2-block in rows j and j + 1 exchanged with the row below it.
-pub fn schur_swap_21(t: &mut [f64], u: &mut [f64], n: usize, j: usize)
-    requires { ⌜ Sized n (now t) × Beside n (now u) × (j + 3 ≤ n) ⌝ }
-    ensures { λ _. ⌜ Done n (now (u .entry)) (now (t .exit)) (now (u .exit)) (Swaps.swap21 binary64 n n j (now (t .entry))) ⌝ }
+pub fn schur_swap_21(t: &mut [f64], u: &mut [f64], ld: usize, n: usize, j: usize)
+    requires { ⌜ Sized ld n (now t) × Beside ld n (now u) × (j + 3 ≤ n) ⌝ }
+    ensures { λ _. ⌜ Done ld n (now (u .entry)) (now (t .exit)) (now (u .exit)) (Swaps.swap21 binary64 ld n j (now (t .entry))) ⌝ }
 {
-    let v = reflectors_21(&*t, n, j);
-    form_21(&mut *t, n, j, v);
-    reflect3_factor(&mut *u, n, v, j + 2, j + 1, j);
+    let v = reflectors_21(&*t, ld, n, j);
+    form_21(&mut *t, ld, n, j, v);
+    reflect3_factor(&mut *u, ld, n, v, j + 2, j + 1, j);
 }

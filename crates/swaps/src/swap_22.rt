@@ -28,27 +28,27 @@ use sylvester::lasy2::Sylvester;
 use sylvester::lasy2::lasy2;
 
 // Rows j to j + 3 of a column.
-fn window_column(t: &[f64], n: usize, j: usize, col: usize) -> [f64; 4]
-    requires { ⌜ Sized n (now t) × (j + 4 ≤ n) × (col + 1 ≤ n) ⌝ }
-    ensures { λ r. ⌜ column r ≡ Swaps.windowColumn n (now (t .entry)) j col ⌝ }
+fn window_column(t: &[f64], ld: usize, n: usize, j: usize, col: usize) -> [f64; 4]
+    requires { ⌜ Sized ld n (now t) × (j + 4 ≤ n) × (col + 1 ≤ n) ⌝ }
+    ensures { λ r. ⌜ column r ≡ Swaps.windowColumn ld (now (t .entry)) j col ⌝ }
 {
     [
-        get(t, n, j, col),
-        get(t, n, j + 1, col),
-        get(t, n, j + 2, col),
-        get(t, n, j + 3, col),
+        get(t, ld, n, j, col),
+        get(t, ld, n, j + 1, col),
+        get(t, ld, n, j + 2, col),
+        get(t, ld, n, j + 3, col),
     ]
 }
 
 // The 4 by 4 window at row j, column after column.
-fn window_at(t: &[f64], n: usize, j: usize) -> [[f64; 4]; 4]
-    requires { ⌜ Sized n (now t) × (j + 4 ≤ n) ⌝ }
-    ensures { λ r. ⌜ window r ≡ Swaps.windowAt n (now (t .entry)) j ⌝ }
+fn window_at(t: &[f64], ld: usize, n: usize, j: usize) -> [[f64; 4]; 4]
+    requires { ⌜ Sized ld n (now t) × (j + 4 ≤ n) ⌝ }
+    ensures { λ r. ⌜ window r ≡ Swaps.windowAt ld (now (t .entry)) j ⌝ }
 {
-    let c0 = window_column(t, n, j, j);
-    let c1 = window_column(t, n, j, j + 1);
-    let c2 = window_column(t, n, j, j + 2);
-    let c3 = window_column(t, n, j, j + 3);
+    let c0 = window_column(t, ld, n, j, j);
+    let c1 = window_column(t, ld, n, j, j + 1);
+    let c2 = window_column(t, ld, n, j, j + 2);
+    let c3 = window_column(t, ld, n, j, j + 3);
     [c0, c1, c2, c3]
 }
 
@@ -182,29 +182,29 @@ fn declines(v: Reflectors4, w: [[f64; 4]; 4]) -> bool
 }
 
 // The form after the exchange of rows j and j + 1 with the two below them.
-fn form_22(t: &mut [f64], n: usize, j: usize, v: Reflectors4)
-    requires { ⌜ Sized n (now t) × (j + 4 ≤ n) ⌝ }
-    ensures { λ _. ⌜ now (t .exit) ≡ form22 n j (reflection4 v) (now (t .entry)) ⌝ }
+fn form_22(t: &mut [f64], ld: usize, n: usize, j: usize, v: Reflectors4)
+    requires { ⌜ Sized ld n (now t) × (j + 4 ≤ n) ⌝ }
+    ensures { λ _. ⌜ now (t .exit) ≡ form22 ld n j (reflection4 v) (now (t .entry)) ⌝ }
 {
-    reflect4_form(&mut *t, n, v, j, j + 1, j + 2, j + 3, j, j + 4);
-    put(&mut *t, n, j + 2, j, 0.0);
-    put(&mut *t, n, j + 2, j + 1, 0.0);
-    put(&mut *t, n, j + 3, j, 0.0);
-    put(&mut *t, n, j + 3, j + 1, 0.0);
+    reflect4_form(&mut *t, ld, n, v, j, j + 1, j + 2, j + 3, j, j + 4);
+    put(&mut *t, ld, n, j + 2, j, 0.0);
+    put(&mut *t, ld, n, j + 2, j + 1, 0.0);
+    put(&mut *t, ld, n, j + 3, j, 0.0);
+    put(&mut *t, ld, n, j + 3, j + 1, 0.0);
 }
 
 // The 2-block in rows j and j + 1 exchanged with the one below it: 0, or 1 for a decline, which
 // touches neither form nor factor.
-pub fn schur_swap_22(t: &mut [f64], u: &mut [f64], n: usize, j: usize) -> usize
-    requires { ⌜ Sized n (now t) × Beside n (now u) × (j + 4 ≤ n) ⌝ }
-    ensures { λ r. ⌜ Done n (now (u .entry)) (now (t .exit)) (now (u .exit)) (Swaps.swap22 binary64 n n j (now (t .entry))) × (r ≡ Swaps.declinedOf (Swaps.swap22 binary64 n n j (now (t .entry)))) × (r ≤ 1) ⌝ }
+pub fn schur_swap_22(t: &mut [f64], u: &mut [f64], ld: usize, n: usize, j: usize) -> usize
+    requires { ⌜ Sized ld n (now t) × Beside ld n (now u) × (j + 4 ≤ n) ⌝ }
+    ensures { λ r. ⌜ Done ld n (now (u .entry)) (now (t .exit)) (now (u .exit)) (Swaps.swap22 binary64 ld n j (now (t .entry))) × (r ≡ Swaps.declinedOf (Swaps.swap22 binary64 ld n j (now (t .entry)))) × (r ≤ 1) ⌝ }
 {
-    let w = window_at(&*t, n, j);
+    let w = window_at(&*t, ld, n, j);
     let v = reflectors_4(solution_of(w));
     if declines(v, w) {
         return 1;
     }
-    form_22(&mut *t, n, j, v);
-    reflect4_factor(&mut *u, n, v, j, j + 1, j + 2, j + 3);
+    form_22(&mut *t, ld, n, j, v);
+    reflect4_factor(&mut *u, ld, n, v, j, j + 1, j + 2, j + 3);
     0
 }

@@ -1,4 +1,4 @@
-// Exchange and move. The factor may be of length 0: none. Turned away, the counts are 0.
+// Exchange and move, with the stride ld after n. The factor may be of length 0: none. Turned away, the counts are 0.
 ghost use mathlib.Core.Path.{_≡_};
 ghost use lib.Ieee.{binary64};
 ghost use Rattle.model.specs.Exchange as Exchange;
@@ -8,6 +8,7 @@ ghost use Rattle.model.specs.Move as Move;
 #[no_mangle]
 pub extern "C" fn vx_schur_swap(
     n: usize,
+    ld: usize,
     t: &mut [f64],
     u: &mut [f64],
     j0: usize,
@@ -16,9 +17,9 @@ pub extern "C" fn vx_schur_swap(
     swaps: &mut usize,
     declined: &mut usize,
 ) -> usize
-    ensures { λ r. ⌜ (record { answer = r; swaps = now (swaps .exit); declined = now (declined .exit); form = now (t .exit); factor = now (u .exit) }) ≡ Exchange.exchangeCall binary64 n n (now (t .entry)) (now (u .entry)) j0 n1 n2 ⌝ }
+    ensures { λ r. ⌜ (record { answer = r; swaps = now (swaps .exit); declined = now (declined .exit); form = now (t .exit); factor = now (u .exit) }) ≡ Exchange.exchangeCall binary64 ld n (now (t .entry)) (now (u .entry)) j0 n1 n2 ⌝ }
 {
-    let r = schur::swap::schur_swap(n, t, u, j0, n1, n2);
+    let r = schur::swap::schur_swap(n, ld, t, u, j0, n1, n2);
     *swaps = r.swaps;
     *declined = r.declined;
     r.answer
@@ -28,6 +29,7 @@ pub extern "C" fn vx_schur_swap(
 #[no_mangle]
 pub extern "C" fn vx_reorder_schur(
     n: usize,
+    ld: usize,
     t: &mut [f64],
     u: &mut [f64],
     from: usize,
@@ -36,9 +38,9 @@ pub extern "C" fn vx_reorder_schur(
     swaps: &mut usize,
     declined: &mut usize,
 ) -> usize
-    ensures { λ r. ⌜ (record { answer = r; landed = now (landed .exit); swaps = now (swaps .exit); declined = now (declined .exit); form = now (t .exit); factor = now (u .exit) }) ≡ Move.moveCall binary64 n n (now (t .entry)) (now (u .entry)) from to ⌝ }
+    ensures { λ r. ⌜ (record { answer = r; landed = now (landed .exit); swaps = now (swaps .exit); declined = now (declined .exit); form = now (t .exit); factor = now (u .exit) }) ≡ Move.moveCall binary64 ld n (now (t .entry)) (now (u .entry)) from to ⌝ }
 {
-    let r = schur::reorder::reorder_schur(n, t, u, from, to);
+    let r = schur::reorder::reorder_schur(n, ld, t, u, from, to);
     *landed = r.landed;
     *swaps = r.swaps;
     *declined = r.declined;

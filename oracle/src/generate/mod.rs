@@ -5,9 +5,11 @@ pub mod floats;
 mod forms;
 pub mod rng;
 mod small;
+mod strides;
 mod text;
 
 use crate::record::{Record, Value};
+use crate::stride;
 use forms::{begins_pair, buffer, factor, form, starts};
 use rng::Rng;
 
@@ -49,7 +51,20 @@ fn passed_over(rng: &mut Rng, call: &str) -> bool {
 }
 
 fn draw(rng: &mut Rng, call: &'static str, index: u64, sizes: Sizes) -> Record {
-    let case = match call {
+    if call == "sheet" {
+        return sheet(rng, sizes);
+    }
+    let case = match on_form(rng, stride::base_of(call), sizes) {
+        Some(case) if stride::taken_by(call) => strides::spread(rng, &case),
+        Some(case) => case,
+        None => return small::case(call, rng, index),
+    };
+    if rng.one_in(12) { damage::damage(rng, case) } else { case }
+}
+
+/// A case of a call with a form or vectors that is not spoilt; of another call, none.
+fn on_form(rng: &mut Rng, call: &'static str, sizes: Sizes) -> Option<Record> {
+    Some(match call {
         "schur_swap" => exchange(rng, sizes),
         "reorder_schur" => reorder(rng, sizes),
         "block_values" => {
@@ -64,10 +79,8 @@ fn draw(rng: &mut Rng, call: &'static str, index: u64, sizes: Sizes) -> Record {
             let n = rows(rng, sizes);
             Record::new(call).num("n", n).list("v", buffer(rng, n * n)).num("col", rng.below(n))
         }
-        "sheet" => return sheet(rng, sizes),
-        _ => return small::case(call, rng, index),
-    };
-    if rng.one_in(12) { damage::damage(rng, case) } else { case }
+        _ => return None,
+    })
 }
 
 /// Small numbers of rows are drawn more often.
@@ -140,15 +153,36 @@ mod tests {
         let lines = |call: &'static str| {
             let mut tally = Tally::default();
             for index in 0..4000 {
-                let (answer, notes) = calls::answer(&case(call, 5, index, USUAL));
-                tally.add(&answer, &notes);
+                let case = case(call, 5, index, USUAL);
+                let (answer, notes) = calls::answer(&case);
+                tally.add(&case, &answer, &notes);
             }
-            assert!(call == "evd_from_real_schur" || tally.split > 100 && tally.declined > 100);
+            assert!(call.starts_with("evd_from_real_schur") || tally.split > 100 && tally.declined > 100);
             tally.answers.into_keys().collect::<Vec<usize>>()
         };
         assert_eq!(lines("schur_swap"), [0, 2, 3, 4, 5, 6, 7, 8, 9, 10]);
         assert_eq!(lines("reorder_schur"), [0, 2, 3, 4, 5, 6, 7]);
         assert_eq!(lines("evd_from_real_schur"), [0, 2, 3, 4, 5, 6]);
+        assert_eq!(lines("schur_swap_ld"), [0, 2, 3, 4, 5, 6, 7, 8, 9, 10, 17]);
+        assert_eq!(lines("reorder_schur_ld"), [0, 2, 3, 4, 5, 6, 7, 17]);
+        assert_eq!(lines("evd_from_real_schur_ld"), [0, 2, 3, 4, 5, 6, 17]);
+    }
+
+    /// One row comes in every stride, and every class of strides and of numbers beyond is drawn.
+    #[test]
+    fn every_stride_occurs() {
+        let mut tally = Tally::default();
+        let mut strides = std::collections::BTreeSet::new();
+        for index in 0..4000 {
+            let case = case("block_values_ld", 5, index, Sizes { least: 1, most: 1 });
+            let (answer, notes) = calls::answer(&case);
+            tally.add(&case, &answer, &notes);
+            if answer.n("answer") == 0 {
+                strides.insert(case.n("ld"));
+            }
+        }
+        assert_eq!(strides.into_iter().collect::<Vec<_>>(), (1..=stride::MOST).collect::<Vec<_>>());
+        assert_eq!(tally.classes.len(), 10, "{tally}");
     }
 
     /// What is proved of the definition holds of the Rust: an accepted exchange counts one to four

@@ -82,9 +82,13 @@ impl<'a, T> MatRef<'a, T> {
         MatRef { grid, life: PhantomData }
     }
     pub fn from_slice(numbers: &'a [T], rows: usize, cols: usize) -> Self {
-        assert!(numbers.len() == rows * cols);
+        Self::with_stride(numbers, rows, cols, rows)
+    }
+    /// The first rows of columns that stand a stride apart.
+    pub fn with_stride(numbers: &'a [T], rows: usize, cols: usize, across: usize) -> Self {
+        assert!(rows <= across && numbers.len() == across * cols);
         let first = NonNull::from(numbers).cast();
-        MatRef::new(Grid { first, rows, cols, down: 1, across: rows })
+        MatRef::new(Grid { first, rows, cols, down: 1, across })
     }
     pub fn nrows(&self) -> usize {
         self.grid.rows
@@ -115,9 +119,13 @@ impl<'a, T> MatMut<'a, T> {
         MatMut { grid, life: PhantomData }
     }
     pub fn from_slice(numbers: &'a mut [T], rows: usize, cols: usize) -> Self {
-        assert!(numbers.len() == rows * cols);
+        Self::with_stride(numbers, rows, cols, rows)
+    }
+    /// The first rows of columns that stand a stride apart.
+    pub fn with_stride(numbers: &'a mut [T], rows: usize, cols: usize, across: usize) -> Self {
+        assert!(rows <= across && numbers.len() == across * cols);
         let first = NonNull::from(numbers).cast();
-        MatMut::new(Grid { first, rows, cols, down: 1, across: rows })
+        MatMut::new(Grid { first, rows, cols, down: 1, across })
     }
     pub fn nrows(&self) -> usize {
         self.grid.rows

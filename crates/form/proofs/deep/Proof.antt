@@ -9,22 +9,22 @@ use Rattle.form.proofs.deep.Statement.{statement}
 use Rattle.form.proofs.deep.Tie as tie
 
 abbrev Inv-loop : tie.InvT-loop
-Inv-loop n t m₀ m = (m ≤ n) × Clean n t m n
+Inv-loop ld n t m₀ m = (m ≤ n) × Clean ld t m n
 
 abbrev μ-loop : tie.MeasureT-loop
-μ-loop n t m₀ m = m
+μ-loop ld n t m₀ m = m
 
 abbrev Inv-loop2 : tie.InvT-loop2
-Inv-loop2 n t m₀ m = (m ≤ n) × Clean n t m n
+Inv-loop2 ld n t m₀ m = (m ≤ n) × Clean ld t m n
 
 abbrev μ-loop2 : tie.MeasureT-loop2
-μ-loop2 n t m₀ m = m
+μ-loop2 ld n t m₀ m = m
 
 abbrev Inv-loop3 : tie.InvT-loop3
-Inv-loop3 n t m₀ m = (m ≤ n) × Clean n t m n
+Inv-loop3 ld n t m₀ m = (m ≤ n) × Clean ld t m n
 
 abbrev μ-loop3 : tie.MeasureT-loop3
-μ-loop3 n t m₀ m = m
+μ-loop3 ld n t m₀ m = m
 
 loop-holds : tie.Need-loop-holds Inv-loop μ-loop Inv-loop2 μ-loop2 Inv-loop3 μ-loop3
 loop-holds c = (omega arith, λ i j a b d. absurd (omega arith))
@@ -35,15 +35,15 @@ sub-deep-rows c = search needs
 deep-rows-requires :
     tie.Need-deep-rows-requires Inv-loop μ-loop Inv-loop2 μ-loop2 Inv-loop3 μ-loop3
 deep-rows-requires c κs =
-    let n = c .before .before .before .args .n in
-    let h : c .before .loop .m - 8 + 8 ≤ n = omega arith in
-    omega (arith, mul-le-mul-left n h)
+    let a = c .before .before .before .args in
+    let h : c .before .loop .m - 8 + 8 ≤ a .n = omega arith in
+    omega (arith, mul-le-mul-left (a .ld) h)
 
 returns : tie.Need-returns Inv-loop μ-loop Inv-loop2 μ-loop2 Inv-loop3 μ-loop3
 returns c =
     let l = c .before .before .before in
     let a = l .before .before .args in
-    sym (line-found (a .n) (a .t .now) (a .n) (l .loop .m - 8) 8 (omega arith) (sym (c .before .deep-rows .ensures) ∙ c .if1 .taken))
+    sym (line-found (a .ld) (a .t .now) (a .n) (l .loop .m - 8) 8 (omega arith) (sym (c .before .deep-rows .ensures) ∙ c .if1 .taken))
 
 sub-m : tie.Need-sub-m Inv-loop μ-loop Inv-loop2 μ-loop2 Inv-loop3 μ-loop3
 sub-m c = search needs
@@ -55,7 +55,7 @@ loop-again : tie.Need-loop-again Inv-loop μ-loop Inv-loop2 μ-loop2 Inv-loop3 �
 loop-again c =
     let l = c .before .before .before in
     let a = l .before .before .args in
-    (omega arith, more (a .n) (a .t .now) (a .n) (l .loop .m - 8) 8 (l .loop .m) (omega arith) (sym (c .before .deep-rows .ensures) ∙ c .if1 .left) (l .loop .inv .1))
+    (omega arith, more (a .ld) (a .t .now) (a .n) (l .loop .m - 8) 8 (l .loop .m) (omega arith) (sym (c .before .deep-rows .ensures) ∙ c .if1 .left) (l .loop .inv .1))
 
 loop2-holds : tie.Need-loop2-holds Inv-loop μ-loop Inv-loop2 μ-loop2 Inv-loop3 μ-loop3
 loop2-holds c = c .before .loop .inv
@@ -66,15 +66,15 @@ sub-deep-rows-2 c = search needs
 deep-rows-requires-2 :
     tie.Need-deep-rows-requires-2 Inv-loop μ-loop Inv-loop2 μ-loop2 Inv-loop3 μ-loop3
 deep-rows-requires-2 c κs =
-    let n = c .before .before .before .before .before .args .n in
-    let h : c .before .loop2 .m - 4 + 4 ≤ n = omega arith in
-    omega (arith, mul-le-mul-left n h)
+    let a = c .before .before .before .before .before .args in
+    let h : c .before .loop2 .m - 4 + 4 ≤ a .n = omega arith in
+    omega (arith, mul-le-mul-left (a .ld) h)
 
 returns-2 : tie.Need-returns-2 Inv-loop μ-loop Inv-loop2 μ-loop2 Inv-loop3 μ-loop3
 returns-2 c =
     let l = c .before .before .before in
     let a = l .before .before .before .before .args in
-    sym (line-found (a .n) (a .t .now) (a .n) (l .loop2 .m - 4) 4 (omega arith) (sym (c .before .deep-rows2 .ensures) ∙ c .if2 .taken))
+    sym (line-found (a .ld) (a .t .now) (a .n) (l .loop2 .m - 4) 4 (omega arith) (sym (c .before .deep-rows2 .ensures) ∙ c .if2 .taken))
 
 sub-m-2 : tie.Need-sub-m-2 Inv-loop μ-loop Inv-loop2 μ-loop2 Inv-loop3 μ-loop3
 sub-m-2 c = search needs
@@ -86,7 +86,7 @@ loop2-again : tie.Need-loop2-again Inv-loop μ-loop Inv-loop2 μ-loop2 Inv-loop3
 loop2-again c =
     let l = c .before .before .before in
     let a = l .before .before .before .before .args in
-    (omega arith, more (a .n) (a .t .now) (a .n) (l .loop2 .m - 4) 4 (l .loop2 .m) (omega arith) (sym (c .before .deep-rows2 .ensures) ∙ c .if2 .left) (l .loop2 .inv .1))
+    (omega arith, more (a .ld) (a .t .now) (a .n) (l .loop2 .m - 4) 4 (l .loop2 .m) (omega arith) (sym (c .before .deep-rows2 .ensures) ∙ c .if2 .left) (l .loop2 .inv .1))
 
 loop3-holds : tie.Need-loop3-holds Inv-loop μ-loop Inv-loop2 μ-loop2 Inv-loop3 μ-loop3
 loop3-holds c = c .before .loop2 .inv
@@ -97,15 +97,15 @@ sub-deep-rows-3 c = search needs
 deep-rows-requires-3 :
     tie.Need-deep-rows-requires-3 Inv-loop μ-loop Inv-loop2 μ-loop2 Inv-loop3 μ-loop3
 deep-rows-requires-3 c κs =
-    let n = c .before .before .before .before .before .before .before .args .n in
-    let h : c .before .loop3 .m - 1 + 1 ≤ n = omega arith in
-    omega (arith, mul-le-mul-left n h)
+    let a = c .before .before .before .before .before .before .before .args in
+    let h : c .before .loop3 .m - 1 + 1 ≤ a .n = omega arith in
+    omega (arith, mul-le-mul-left (a .ld) h)
 
 returns-3 : tie.Need-returns-3 Inv-loop μ-loop Inv-loop2 μ-loop2 Inv-loop3 μ-loop3
 returns-3 c =
     let l = c .before .before .before in
     let a = l .before .before .before .before .before .before .args in
-    sym (line-found (a .n) (a .t .now) (a .n) (l .loop3 .m - 1) 1 (omega arith) (sym (c .before .deep-rows3 .ensures) ∙ c .if3 .taken))
+    sym (line-found (a .ld) (a .t .now) (a .n) (l .loop3 .m - 1) 1 (omega arith) (sym (c .before .deep-rows3 .ensures) ∙ c .if3 .taken))
 
 sub-m-3 : tie.Need-sub-m-3 Inv-loop μ-loop Inv-loop2 μ-loop2 Inv-loop3 μ-loop3
 sub-m-3 c = search needs
@@ -117,13 +117,13 @@ loop3-again : tie.Need-loop3-again Inv-loop μ-loop Inv-loop2 μ-loop2 Inv-loop3
 loop3-again c =
     let l = c .before .before .before in
     let a = l .before .before .before .before .before .before .args in
-    (omega arith, more (a .n) (a .t .now) (a .n) (l .loop3 .m - 1) 1 (l .loop3 .m) (omega arith) (sym (c .before .deep-rows3 .ensures) ∙ c .if3 .left) (l .loop3 .inv .1))
+    (omega arith, more (a .ld) (a .t .now) (a .n) (l .loop3 .m - 1) 1 (l .loop3 .m) (omega arith) (sym (c .before .deep-rows3 .ensures) ∙ c .if3 .left) (l .loop3 .inv .1))
 
 returns-4 : tie.Need-returns-4 Inv-loop μ-loop Inv-loop2 μ-loop2 Inv-loop3 μ-loop3
 returns-4 c =
     let l = c .before in
     let a = l .before .before .before .before .before .before .args in
-    sym (clean-line (a .n) (a .t .now) (a .n) (λ i j x y z. l .loop3 .inv .1 i j (omega arith) y z))
+    sym (clean-line (a .ld) (a .t .now) (a .n) (λ i j x y z. l .loop3 .inv .1 i j (omega arith) y z))
 
 pub deep-spec : {M : Type 1} → statement M
 deep-spec =

@@ -24,10 +24,10 @@ apart false true d e = (refl, e)
 apart false false d e = (refl, refl)
 
 abbrev Inv-loop : tie.InvT-loop
-Inv-loop n t j₀ j = (j ≤ n - 2) × (some j (touchingIn binary64 n t) ≡ false)
+Inv-loop ld n t j₀ j = (j ≤ n - 2) × (some j (touchingIn binary64 ld t) ≡ false)
 
 abbrev μ-loop : tie.MeasureT-loop
-μ-loop n t j₀ j = n - j
+μ-loop ld n t j₀ j = n - j
 
 loop-holds : tie.Need-loop-holds Inv-loop μ-loop
 unfolding some
@@ -63,7 +63,7 @@ returns c =
     let l = first .before .before in
     let a = l .before .before .args in
     sym
-    (one-of-two (a .n - 2) (l .loop .j) (touchingIn binary64 (a .n) (a .t .now)) (omega arith)
+    (one-of-two (a .n - 2) (l .loop .j) (touchingIn binary64 (a .ld) (a .t .now)) (omega arith)
     (rw (← first .nonzero-below .ensures, ← second .nonzero-below2 .ensures, ← third .nonzero-below3 .ensures)
     (beside (first .nonzero-below .result) (third .nonzero-below3 .result) (second .nonzero-below2 .result) (c .if1 .taken))))
 
@@ -83,7 +83,7 @@ loop-again c =
     let a = l .before .before .args in
     let h = apart (first .nonzero-below .result) (third .nonzero-below3 .result) (second .nonzero-below2 .result) (c .if1 .left) in (
       search needs,
-      two-more (l .loop .j) (touchingIn binary64 (a .n) (a .t .now)) (l .loop .inv .1)
+      two-more (l .loop .j) (touchingIn binary64 (a .ld) (a .t .now)) (l .loop .inv .1)
           (rw (← first .nonzero-below .ensures, ← third .nonzero-below3 .ensures) (h .0))
           (rw (← third .nonzero-below3 .ensures, ← second .nonzero-below2 .ensures) (h .1)),
     )

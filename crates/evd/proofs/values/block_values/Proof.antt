@@ -7,7 +7,8 @@ use lib.Dec.{eqb}
 use lib.ListN.{length}
 use lib.Ieee.{binary64}
 use Rattle.model.specs.Values.{blockValues}
-use Rattle.evd.proofs.Lines.{first, second, accepted, two-buffers}
+use Rattle.form.proofs.Accepted.{further-accepted}
+use Rattle.evd.proofs.Lines.{first, second, two-buffers, whole}
 use borrow.Author.Needs.{needs}
 use Rattle.evd.proofs.values.block_values.Statement.{statement}
 use Rattle.evd.proofs.values.block_values.Tie as tie
@@ -26,10 +27,10 @@ all-values-requires c κs =
     let s = l .before .before .before .before .args in
     let r = eqb (length (s .re .now)) (s .n) in
     let m = eqb (length (s .im .now)) (s .n) in
-    let a = accepted binary64 _ _ _ _ (sym (l .values-line .ensures) ∙ i .if1 .left) in (
-      (omega (arith, a .small), a .small, omega arith, a .whole),
-      eqb-true _ _ (not-false r (first (not r) (not m) (a .fits))),
-      eqb-true _ _ (not-false m (second (not r) (not m) (a .fits))),
+    let a = further-accepted _ _ _ _ (sym (l .values-line .ensures) ∙ i .if1 .left) in (
+      whole (a .0),
+      eqb-true _ _ (not-false r (first (not r) (not m) (a .1))),
+      eqb-true _ _ (not-false m (second (not r) (not m) (a .1))),
     )
 
 same-length : tie.Need-same-length

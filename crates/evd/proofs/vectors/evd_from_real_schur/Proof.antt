@@ -4,8 +4,9 @@ use native.Mathlib.Omega.{arith}
 use borrow.Author.Tests.{eq-eqb, ne-eqb, eqb-true, not-false}
 use lib.Ieee.{binary64}
 use Rattle.model.specs.Vectors.{vectorsLine, evdFromRealSchur}
-use Rattle.evd.specs.Further.{furtherLine}
-use Rattle.evd.proofs.Lines.{accepted}
+use Rattle.form.specs.Lines.{furtherLine}
+use Rattle.form.proofs.Accepted.{further-accepted}
+use Rattle.evd.proofs.Lines.{whole}
 use borrow.Author.Needs.{needs}
 use Rattle.evd.proofs.vectors.evd_from_real_schur.Statement.{statement}
 use Rattle.evd.proofs.vectors.evd_from_real_schur.Tie as tie
@@ -21,8 +22,8 @@ all-columns-requires : tie.Need-all-columns-requires
 all-columns-requires c κs =
     let i = c .before in
     let l = i .before in
-    let a = accepted binary64 _ _ _ _ (sym (l .vectors-line .ensures) ∙ i .if1 .left) in
-    ((omega (arith, a .small), a .small, omega arith, a .whole), eqb-true _ _ (not-false _ (a .fits)))
+    let a = further-accepted _ _ _ _ (sym (l .vectors-line .ensures) ∙ i .if1 .left) in
+    (whole (a .0), eqb-true _ _ (not-false _ (a .1)))
 
 same-length : tie.Need-same-length
 same-length c = search needs

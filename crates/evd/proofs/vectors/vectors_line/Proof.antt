@@ -1,29 +1,38 @@
 -- `evd::vectors::vectors_line` meets its contract. Assumes nothing.
+use mathlib.Core.Path.{sym, _∙_}
 use native.Mathlib.Nat.{mul-le-mul}
 use native.Mathlib.Omega.{arith}
-use borrow.Author.Tests.{eq-eqb}
-use lib.Ieee.{binary64}
-use Rattle.evd.proofs.Lines.{further, small}
+use borrow.Author.Tests.{eq-eqb, ne-eqb}
+use Rattle.form.proofs.Accepted.{size-accepted, further-first}
 use borrow.Author.Needs.{needs}
 use Rattle.evd.proofs.vectors.vectors_line.Statement.{statement}
 use Rattle.evd.proofs.vectors.vectors_line.Tie as tie
 
-form-line-requires : tie.Need-form-line-requires
-form-line-requires c κs = search needs
+size-line-requires : tie.Need-size-line-requires
+size-line-requires c κs = search needs
 
 returns : tie.Need-returns
-returns c = rw (further, ← c .before .form-line .ensures, eq-eqb _ _ (c .if1 .taken))
+returns c = rw (further-first, ← c .before .size-line .ensures, ne-eqb _ _ (c .if1 .taken))
 
-mul-with-further : tie.Need-mul-with-further
-mul-with-further c = let h = small binary64 _ _ _ (rw (c .before .form-line .ensures) at (c .if1 .left)) in omega (arith, mul-le-mul h h)
-
-with-further-requires : tie.Need-with-further-requires
-with-further-requires c κs = search needs
+mul-if2 : tie.Need-mul-if2
+mul-if2 c =
+    let h = size-accepted _ _ _ (sym (c .before .size-line .ensures) ∙ c .if1 .left) in omega (arith, mul-le-mul (h .near) (h .small))
 
 returns-2 : tie.Need-returns-2
-returns-2 c = rw (further, ← c .before .before .form-line .ensures) (c .with-further .ensures)
+returns-2 c =
+    let i = c .before in
+    rw (further-first, ← i .before .size-line .ensures, eq-eqb _ _ (i .if1 .left), ne-eqb _ _ (c .if2 .taken))
+
+shape-line-requires : tie.Need-shape-line-requires
+shape-line-requires c κs =
+    let i = c .before in
+    size-accepted _ _ _ (sym (i .before .size-line .ensures) ∙ i .if1 .left)
+
+returns-3 : tie.Need-returns-3
+returns-3 c =
+    let j = c .before in
+    let i = j .before in
+    rw (further-first, ← i .before .size-line .ensures, eq-eqb _ _ (i .if1 .left), eq-eqb _ _ (j .if2 .left)) (c .shape-line .ensures)
 
 pub vectors-line-spec : {M : Type 1} → statement M
-vectors-line-spec =
-    tie.close
-    (tie.spec form-line-requires returns mul-with-further with-further-requires returns-2)
+vectors-line-spec = tie.close (tie.spec size-line-requires returns mul-if2 returns-2 shape-line-requires returns-3)

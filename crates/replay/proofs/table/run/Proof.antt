@@ -73,6 +73,21 @@ evd-from-real-schur-requires c κs = search needs
 column-requires : tie.Need-column-requires
 column-requires c κs = search needs
 
+schur-swap-requires-2 : tie.Need-schur-swap-requires-2
+schur-swap-requires-2 c κs = search needs
+
+reorder-schur-requires-2 : tie.Need-reorder-schur-requires-2
+reorder-schur-requires-2 c κs = search needs
+
+block-values-requires-2 : tie.Need-block-values-requires-2
+block-values-requires-2 c κs = search needs
+
+evd-from-real-schur-requires-2 : tie.Need-evd-from-real-schur-requires-2
+evd-from-real-schur-requires-2 c κs = search needs
+
+column-requires-2 : tie.Need-column-requires-2
+column-requires-2 c κs = search needs
+
 returns : tie.Need-returns
 returns c = rw (c .before .match .keys1) (c .abs .ensures)
 
@@ -137,7 +152,22 @@ returns-21 : tie.Need-returns-21
 returns-21 c = rw (c .before .match .keys21) (c .column .ensures)
 
 returns-22 : tie.Need-returns-22
-returns-22 c =
+returns-22 c = rw (c .before .match .keys22) (c .schur-swap2 .ensures)
+
+returns-23 : tie.Need-returns-23
+returns-23 c = rw (c .before .match .keys23) (c .reorder-schur2 .ensures)
+
+returns-24 : tie.Need-returns-24
+returns-24 c = rw (c .before .match .keys24) (c .block-values2 .ensures)
+
+returns-25 : tie.Need-returns-25
+returns-25 c = rw (c .before .match .keys25) (c .evd-from-real-schur2 .ensures)
+
+returns-26 : tie.Need-returns-26
+returns-26 c = rw (c .before .match .keys26) (c .column2 .ensures)
+
+returns-27 : tie.Need-returns-27
+returns-27 c =
     let a = c .before .before .args in
     ap (λ (f : List ℕ → Outcome). f (a .w .now)) (sym (List·getD-eq-default lines none (past (a .call) (c .match .rest))))
 
@@ -166,6 +196,11 @@ run-spec =
     block-values-requires
     evd-from-real-schur-requires
     column-requires
+    schur-swap-requires-2
+    reorder-schur-requires-2
+    block-values-requires-2
+    evd-from-real-schur-requires-2
+    column-requires-2
     returns
     returns-2
     returns-3
@@ -187,4 +222,9 @@ run-spec =
     returns-19
     returns-20
     returns-21
-    returns-22)
+    returns-22
+    returns-23
+    returns-24
+    returns-25
+    returns-26
+    returns-27)

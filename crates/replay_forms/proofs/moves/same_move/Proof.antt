@@ -1,14 +1,20 @@
 -- `replay_forms::moves::same_move` meets its contract. Assumes nothing.
-use borrow.Author.Needs.{needs}
 use Rattle.replay_forms.specs.Lines.{sameMove}
+use borrow.Author.Needs.{needs}
 use Rattle.replay_forms.proofs.moves.same_move.Statement.{statement}
 use Rattle.replay_forms.proofs.moves.same_move.Tie as tie
+
+add-fill : tie.Need-add-fill
+add-fill c = search needs
 
 fill-requires : tie.Need-fill-requires
 fill-requires c κs = search needs
 
-add-fill : tie.Need-add-fill
-add-fill c = search needs
+add-fill-2 : tie.Need-add-fill-2
+add-fill-2 c = search needs
+
+add-fill-3 : tie.Need-add-fill-3
+add-fill-3 c = search needs
 
 fill-requires-2 : tie.Need-fill-requires-2
 fill-requires-2 c κs = search needs
@@ -16,8 +22,29 @@ fill-requires-2 c κs = search needs
 shared-slice-read-n : tie.Need-shared-slice-read-n
 shared-slice-read-n c = search needs
 
+add-ld : tie.Need-add-ld
+add-ld c = search needs
+
+mul-ld : tie.Need-mul-ld
+mul-ld c = search needs
+
+shared-slice-read-ld : tie.Need-shared-slice-read-ld
+shared-slice-read-ld c = search needs
+
+add-from : tie.Need-add-from
+add-from c = search needs
+
+mul-from : tie.Need-mul-from
+mul-from c = search needs
+
 shared-slice-read-from : tie.Need-shared-slice-read-from
 shared-slice-read-from c = search needs
+
+add-to : tie.Need-add-to
+add-to c = search needs
+
+mul-to : tie.Need-mul-to
+mul-to c = search needs
 
 shared-slice-read-to : tie.Need-shared-slice-read-to
 shared-slice-read-to c = search needs
@@ -30,6 +57,9 @@ add-e c = search needs
 
 add-e-2 : tie.Need-add-e-2
 add-e-2 c = search needs
+
+add-e-3 : tie.Need-add-e-3
+add-e-3 c = search needs
 
 mul-answer : tie.Need-mul-answer
 mul-answer c = search needs
@@ -90,7 +120,7 @@ unfolding sameMove
 returns c =
     let c1 = c .before .before in
     let c2 = c1 .before .before .before .before .before .before .before .before .before .before in
-    let c3 = c2 .before .before .before .before .before .before .before .before in
+    let c3 = c2 .before .before .before .before .before .before .before .before .before in
     let c4 = c3 .before .before .before .before in (
       rw (c .are2 .ensures, c1 .are .ensures, ← c4 .fill .ensures, ← c3 .fill2 .ensures, ← c2 .reorder-schur .ensures),
       rw (← c4 .fill .ensures, ← c3 .fill2 .ensures, ← c2 .reorder-schur .ensures),
@@ -101,15 +131,25 @@ pub same-move-spec : {M : Type 1} → statement M
 same-move-spec =
     tie.close
     (tie.spec
-    fill-requires
     add-fill
+    fill-requires
+    add-fill-2
+    add-fill-3
     fill-requires-2
     shared-slice-read-n
+    add-ld
+    mul-ld
+    shared-slice-read-ld
+    add-from
+    mul-from
     shared-slice-read-from
+    add-to
+    mul-to
     shared-slice-read-to
     reorder-schur-requires
     add-e
     add-e-2
+    add-e-3
     mul-answer
     shared-slice-read-answer
     add-landed

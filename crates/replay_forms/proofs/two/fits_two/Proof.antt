@@ -7,17 +7,26 @@ use Rattle.replay_forms.proofs.two.fits_two.Tie as tie
 enum-told : tie.Need-enum-told
 enum-told c = search needs
 
+add-fits : tie.Need-add-fits
+add-fits c = search needs
+
 fits-requires : tie.Need-fits-requires
 fits-requires c κs = search needs
 
 enum-told-2 : tie.Need-enum-told-2
 enum-told-2 c = search needs
 
+add-fits-2 : tie.Need-add-fits-2
+add-fits-2 c = search needs
+
 fits-requires-2 : tie.Need-fits-requires-2
 fits-requires-2 c κs = search needs
 
 enum-told-3 : tie.Need-enum-told-3
 enum-told-3 c = search needs
+
+add-fits-3 : tie.Need-add-fits-3
+add-fits-3 c = search needs
 
 fits-requires-3 : tie.Need-fits-requires-3
 fits-requires-3 c κs = search needs
@@ -39,10 +48,13 @@ fits-two-spec =
     tie.close
     (tie.spec
     enum-told
+    add-fits
     fits-requires
     enum-told-2
+    add-fits-2
     fits-requires-2
     enum-told-3
+    add-fits-3
     fits-requires-3
     returns
     returns-2

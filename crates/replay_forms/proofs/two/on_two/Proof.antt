@@ -12,7 +12,7 @@ use Rattle.replay_forms.proofs.two.on_two.Tie as tie
 
 returns : tie.Need-returns
 unfolding onTwo
-returns c = rw (short-two _ _ _ _ (c .if1 .taken))
+returns c = rw (short-two _ _ _ _ _ (c .if1 .taken))
 
 shared-slice-read-a : tie.Need-shared-slice-read-a
 shared-slice-read-a c = search needs
@@ -36,24 +36,24 @@ room-requires-2 c κs = search needs
 array-borrow-prefix-t : tie.Need-array-borrow-prefix-t
 array-borrow-prefix-t c =
     let d = c .before .before in
-    omega (arith, sides _ _ _ _ (sym (d .before .fits-two .ensures) ∙ not-false _ (d .if2 .left)) .0)
+    omega (arith, sides _ _ _ _ _ (sym (d .before .fits-two .ensures) ∙ not-false _ (d .if2 .left)) .0)
 
 slice-aggregate-same : tie.Need-slice-aggregate-same
 slice-aggregate-same c =
     let r = c .before .before in
     let d = r .before in
-    sym (front _ (r .room .result) (r .room .ensures .1) (sides _ _ _ _ (sym (d .before .fits-two .ensures) ∙ not-false _ (d .if2 .left)) .0))
+    sym (front _ (r .room .result) (r .room .ensures .1) (sides _ _ _ _ _ (sym (d .before .fits-two .ensures) ∙ not-false _ (d .if2 .left)) .0))
 
 array-borrow-prefix-u : tie.Need-array-borrow-prefix-u
 array-borrow-prefix-u c =
     let d = c .before .before .before in
-    omega (arith, sides _ _ _ _ (sym (d .before .fits-two .ensures) ∙ not-false _ (d .if2 .left)) .1)
+    omega (arith, sides _ _ _ _ _ (sym (d .before .fits-two .ensures) ∙ not-false _ (d .if2 .left)) .1)
 
 slice-aggregate-same-2 : tie.Need-slice-aggregate-same-2
 slice-aggregate-same-2 c =
     let r = c .before .before in
     let d = r .before .before in
-    sym (front _ (r .room2 .result) (r .room2 .ensures .1) (sides _ _ _ _ (sym (d .before .fits-two .ensures) ∙ not-false _ (d .if2 .left)) .1))
+    sym (front _ (r .room2 .result) (r .room2 .ensures .1) (sides _ _ _ _ _ (sym (d .before .fits-two .ensures) ∙ not-false _ (d .if2 .left)) .1))
 
 same-requires : tie.Need-same-requires
 same-requires c κs =
@@ -61,9 +61,9 @@ same-requires c κs =
     let r1 = r2 .before in
     let d = r1 .before in
     let y = sym (d .before .fits-two .ensures) ∙ not-false _ (d .if2 .left) in
-    let f = sides _ _ _ _ y in
+    let f = sides _ _ _ _ _ y in
     let w = d .before .before .before .before .before .before .args .w .now in
-    rw (front (getD w 0 0) (r1 .room .result) (r1 .room .ensures .1) (f .0), front (getD w 1 0) (r2 .room2 .result) (r2 .room2 .ensures .1) (f .1)) y
+    rw (front (getD w 0 0) (r1 .room .result) (r1 .room .ensures .1) (f .0), front (getD w 1 0) (r2 .room2 .result) (r2 .room2 .ensures .1) (f .1)) (d .before .before .before .before .before .before .pre, y)
 
 judge-requires : tie.Need-judge-requires
 judge-requires c κs = search needs
@@ -76,7 +76,7 @@ returns-3 c =
     let r1 = r2 .before in
     let d = r1 .before in
     let y = sym (d .before .fits-two .ensures) ∙ not-false _ (d .if2 .left) in
-    let f = sides _ _ _ _ y in
+    let f = sides _ _ _ _ _ y in
     let w = d .before .before .before .before .before .before .args .w .now in
     rw (
       c .judge .ensures,

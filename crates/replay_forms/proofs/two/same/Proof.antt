@@ -13,8 +13,8 @@ same-move-requires : tie.Need-same-move-requires
 same-move-requires c κs =
     let e = c .before .before in
     let s = e .before .before .before .before .before in
-    let f = fit-of _ _ _ _ _ (e .enum-told .given .1) (s .pre) in
-    (f .first, f .second, omega (arith, f .all))
+    let f = fit-of _ _ _ _ _ _ (e .enum-told .given .1) (s .pre .1) in
+    (f .first, f .second, s .pre .0, omega (arith, f .all))
 
 enum-told-2 : tie.Need-enum-told-2
 enum-told-2 c = search needs
@@ -23,8 +23,8 @@ same-exchange-requires : tie.Need-same-exchange-requires
 same-exchange-requires c κs =
     let e = c .before .before in
     let s = e .before .before .before .before .before in
-    let f = fit-of _ _ _ _ _ (e .enum-told2 .given .1) (s .pre) in
-    (f .first, f .second, omega (arith, f .all))
+    let f = fit-of _ _ _ _ _ _ (e .enum-told2 .given .1) (s .pre .1) in
+    (f .first, f .second, s .pre .0, omega (arith, f .all))
 
 enum-told-3 : tie.Need-enum-told-3
 enum-told-3 c = search needs
@@ -33,8 +33,8 @@ same-vectors-requires : tie.Need-same-vectors-requires
 same-vectors-requires c κs =
     let e = c .before .before in
     let s = e .before .before .before .before .before in
-    let f = fit-of _ _ _ _ _ (e .enum-told3 .given .1) (s .pre) in
-    (f .given, f .first, omega (arith, f .all))
+    let f = fit-of _ _ _ _ _ _ (e .enum-told3 .given .1) (s .pre .1) in
+    (f .given, f .first, s .pre .0, omega (arith, f .all))
 
 same-length : tie.Need-same-length
 same-length c = search needs

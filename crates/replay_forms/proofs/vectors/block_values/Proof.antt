@@ -7,6 +7,12 @@ use borrow.Author.Needs.{needs}
 use Rattle.replay_forms.proofs.vectors.block_values.Statement.{statement}
 use Rattle.replay_forms.proofs.vectors.block_values.Tie as tie
 
+add-if1 : tie.Need-add-if1
+add-if1 c = search needs
+
+add-fits : tie.Need-add-fits
+add-fits c = search needs
+
 returns : tie.Need-returns
 returns c = rw (short _ _ _ _ _ (c .if1 .taken))
 
@@ -75,7 +81,7 @@ same-values-requires c κs =
     let d = r1 .before in
     let f = fit _ _ _ _ _ _ (d .before .fits2 .ensures) (d .if2 .left) in
     let w = d .before .before .before .before .before .before .before .args .w .now in
-    rw (front (getD w 0 0) (r1 .room .result) (r1 .room .ensures .1) (f .given), front (getD w 1 0) (r2 .room2 .result) (r2 .room2 .ensures .1) (f .first), front (getD w 2 0) (r3 .room3 .result) (r3 .room3 .ensures .1) (f .second)) (f .given, f .first, f .second, f .all)
+    rw (front (getD w 0 0) (r1 .room .result) (r1 .room .ensures .1) (f .given), front (getD w 1 0) (r2 .room2 .result) (r2 .room2 .ensures .1) (f .first), front (getD w 2 0) (r3 .room3 .result) (r3 .room3 .ensures .1) (f .second)) (f .given, f .first, f .second, d .before .before .before .before .before .before .before .pre, f .all)
 
 judge-requires : tie.Need-judge-requires
 judge-requires c κs = search needs
@@ -95,10 +101,12 @@ pub block-values-spec : {M : Type 1} → statement M
 block-values-spec =
     tie.close
     (tie.spec
+    add-if1
     returns
     shared-slice-read-a
     shared-slice-read-b
     shared-slice-read-k
+    add-fits
     fits-requires
     returns-2
     room-requires

@@ -10,10 +10,16 @@ use borrow.Author.Needs.{needs}
 use Rattle.replay_forms.proofs.vectors.column.Statement.{statement}
 use Rattle.replay_forms.proofs.vectors.column.Tie as tie
 
+add-if1 : tie.Need-add-if1
+add-if1 c = search needs
+
+add-if3-2 : tie.Need-add-if3-2
+add-if3-2 c = search needs
+
 returns : tie.Need-returns
 returns c =
     let w = c .before .before .args .w .now in
-    rw (lt-leb (3 + getD w 0 0) (length w) (omega arith), and-false)
+    rw (lt-leb (3 + c .before .before .args .more + getD w 0 0) (length w) (omega arith), and-false)
 
 shared-slice-read-a : tie.Need-shared-slice-read-a
 shared-slice-read-a c = search needs
@@ -41,7 +47,7 @@ same-column-requires c κs =
     let r = c .before in
     let d = r .before .before in
     let w = d .before .before .before .before .args .w .now in
-    rw (front (getD w 0 0) (r .room .result) (r .room .ensures .1) (d .if2 .left)) (d .if2 .left, r .before .if3 .left)
+    rw (front (getD w 0 0) (r .room .result) (r .room .ensures .1) (d .if2 .left)) (d .if2 .left, d .before .before .before .before .pre, r .before .if3 .left)
 
 judge-requires : tie.Need-judge-requires
 judge-requires c κs = search needs
@@ -58,10 +64,12 @@ pub column-spec : {M : Type 1} → statement M
 column-spec =
     tie.close
     (tie.spec
+    add-if1
     returns
     shared-slice-read-a
     returns-2
     add-if3
+    add-if3-2
     returns-3
     room-requires
     array-borrow-prefix-v

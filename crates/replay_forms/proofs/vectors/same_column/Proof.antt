@@ -11,11 +11,32 @@ use Rattle.replay_forms.proofs.vectors.same_column.Tie as tie
 add-e : tie.Need-add-e
 add-e c = search needs
 
+add-e-2 : tie.Need-add-e-2
+add-e-2 c = search needs
+
+add-fill : tie.Need-add-fill
+add-fill c = search needs
+
 fill-requires : tie.Need-fill-requires
 fill-requires c κs = search needs
 
 shared-slice-read-n : tie.Need-shared-slice-read-n
 shared-slice-read-n c = search needs
+
+add-ld : tie.Need-add-ld
+add-ld c = search needs
+
+mul-ld : tie.Need-mul-ld
+mul-ld c = search needs
+
+shared-slice-read-ld : tie.Need-shared-slice-read-ld
+shared-slice-read-ld c = search needs
+
+add-col : tie.Need-add-col
+add-col c = search needs
+
+mul-col : tie.Need-mul-col
+mul-col c = search needs
 
 shared-slice-read-col : tie.Need-shared-slice-read-col
 shared-slice-read-col c = search needs
@@ -45,9 +66,9 @@ returns : tie.Need-returns
 unfolding sameColumn
 returns c =
     let c1 = c .before .before in
-    let c2 = c1 .before .before .before .before .before .before in
+    let c2 = c1 .before .before .before .before .before .before .before in
     let a = c2 .before .before .before .before .args in
-    let e = 3 + length (a .v .now) in (
+    let e = 3 + a .more + length (a .v .now) in (
       rw (
         c .are-words .ensures,
         take-all (length (a .w .now) - e) (drop e (a .w .now)) (simp length-drop (omega arith)),
@@ -62,8 +83,15 @@ same-column-spec =
     tie.close
     (tie.spec
     add-e
+    add-e-2
+    add-fill
     fill-requires
     shared-slice-read-n
+    add-ld
+    mul-ld
+    shared-slice-read-ld
+    add-col
+    mul-col
     shared-slice-read-col
     column-requires
     mul-are-words

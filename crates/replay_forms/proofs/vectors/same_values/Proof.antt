@@ -4,14 +4,11 @@ use borrow.Author.Needs.{needs}
 use Rattle.replay_forms.proofs.vectors.same_values.Statement.{statement}
 use Rattle.replay_forms.proofs.vectors.same_values.Tie as tie
 
-fill-requires : tie.Need-fill-requires
-fill-requires c κs = search needs
-
 add-fill : tie.Need-add-fill
 add-fill c = search needs
 
-fill-requires-2 : tie.Need-fill-requires-2
-fill-requires-2 c κs = search needs
+fill-requires : tie.Need-fill-requires
+fill-requires c κs = search needs
 
 add-fill-2 : tie.Need-add-fill-2
 add-fill-2 c = search needs
@@ -19,11 +16,32 @@ add-fill-2 c = search needs
 add-fill-3 : tie.Need-add-fill-3
 add-fill-3 c = search needs
 
+fill-requires-2 : tie.Need-fill-requires-2
+fill-requires-2 c κs = search needs
+
+add-fill-4 : tie.Need-add-fill-4
+add-fill-4 c = search needs
+
+add-fill-5 : tie.Need-add-fill-5
+add-fill-5 c = search needs
+
+add-fill-6 : tie.Need-add-fill-6
+add-fill-6 c = search needs
+
 fill-requires-3 : tie.Need-fill-requires-3
 fill-requires-3 c κs = search needs
 
 shared-slice-read-n : tie.Need-shared-slice-read-n
 shared-slice-read-n c = search needs
+
+add-ld : tie.Need-add-ld
+add-ld c = search needs
+
+mul-ld : tie.Need-mul-ld
+mul-ld c = search needs
+
+shared-slice-read-ld : tie.Need-shared-slice-read-ld
+shared-slice-read-ld c = search needs
 
 block-values-requires : tie.Need-block-values-requires
 block-values-requires c κs = search needs
@@ -36,6 +54,9 @@ add-e-2 c = search needs
 
 add-e-3 : tie.Need-add-e-3
 add-e-3 c = search needs
+
+add-e-4 : tie.Need-add-e-4
+add-e-4 c = search needs
 
 mul-answer : tie.Need-mul-answer
 mul-answer c = search needs
@@ -72,7 +93,7 @@ unfolding sameValues
 returns c =
     let c1 = c .before .before in
     let c2 = c1 .before .before .before .before .before .before .before in
-    let c3 = c2 .before .before .before .before .before .before .before in
+    let c3 = c2 .before .before .before .before .before .before .before .before in
     let c4 = c3 .before .before .before .before in
     let c5 = c4 .before .before .before .before in (
       rw (c .are2 .ensures, c1 .are .ensures, ← c5 .fill .ensures, ← c4 .fill2 .ensures, ← c3 .fill3 .ensures, ← c2 .block-values .ensures),
@@ -85,17 +106,24 @@ pub same-values-spec : {M : Type 1} → statement M
 same-values-spec =
     tie.close
     (tie.spec
-    fill-requires
     add-fill
-    fill-requires-2
+    fill-requires
     add-fill-2
     add-fill-3
+    fill-requires-2
+    add-fill-4
+    add-fill-5
+    add-fill-6
     fill-requires-3
     shared-slice-read-n
+    add-ld
+    mul-ld
+    shared-slice-read-ld
     block-values-requires
     add-e
     add-e-2
     add-e-3
+    add-e-4
     mul-answer
     shared-slice-read-answer
     add-are

@@ -4,17 +4,32 @@ use borrow.Author.Needs.{needs}
 use Rattle.replay_forms.proofs.vectors.same_vectors.Statement.{statement}
 use Rattle.replay_forms.proofs.vectors.same_vectors.Tie as tie
 
+add-fill : tie.Need-add-fill
+add-fill c = search needs
+
 fill-requires : tie.Need-fill-requires
 fill-requires c κs = search needs
 
-add-fill : tie.Need-add-fill
-add-fill c = search needs
+add-fill-2 : tie.Need-add-fill-2
+add-fill-2 c = search needs
+
+add-fill-3 : tie.Need-add-fill-3
+add-fill-3 c = search needs
 
 fill-requires-2 : tie.Need-fill-requires-2
 fill-requires-2 c κs = search needs
 
 shared-slice-read-n : tie.Need-shared-slice-read-n
 shared-slice-read-n c = search needs
+
+add-ld : tie.Need-add-ld
+add-ld c = search needs
+
+mul-ld : tie.Need-mul-ld
+mul-ld c = search needs
+
+shared-slice-read-ld : tie.Need-shared-slice-read-ld
+shared-slice-read-ld c = search needs
 
 evd-from-real-schur-requires : tie.Need-evd-from-real-schur-requires
 evd-from-real-schur-requires c κs = search needs
@@ -24,6 +39,9 @@ add-e c = search needs
 
 add-e-2 : tie.Need-add-e-2
 add-e-2 c = search needs
+
+add-e-3 : tie.Need-add-e-3
+add-e-3 c = search needs
 
 mul-answer : tie.Need-mul-answer
 mul-answer c = search needs
@@ -47,7 +65,7 @@ returns : tie.Need-returns
 unfolding sameVectors
 returns c =
     let c1 = c .before .before .before .before .before in
-    let c2 = c1 .before .before .before .before .before .before in
+    let c2 = c1 .before .before .before .before .before .before .before in
     let c3 = c2 .before .before .before .before in (
       rw (c .are .ensures, ← c3 .fill .ensures, ← c2 .fill2 .ensures, ← c1 .evd-from-real-schur .ensures),
       c3 .fill .ensures,
@@ -58,13 +76,19 @@ pub same-vectors-spec : {M : Type 1} → statement M
 same-vectors-spec =
     tie.close
     (tie.spec
-    fill-requires
     add-fill
+    fill-requires
+    add-fill-2
+    add-fill-3
     fill-requires-2
     shared-slice-read-n
+    add-ld
+    mul-ld
+    shared-slice-read-ld
     evd-from-real-schur-requires
     add-e
     add-e-2
+    add-e-3
     mul-answer
     shared-slice-read-answer
     add-are

@@ -70,7 +70,22 @@ returns-21 : tie.Need-returns-21
 returns-21 c = rw (c .before .before .match .keys21)
 
 returns-22 : tie.Need-returns-22
-returns-22 c = sym (List·getD-eq-default names (replicate 28 32) (past (c .before .args .call) (c .match .rest)))
+returns-22 c = rw (c .before .before .match .keys22)
+
+returns-23 : tie.Need-returns-23
+returns-23 c = rw (c .before .before .match .keys23)
+
+returns-24 : tie.Need-returns-24
+returns-24 c = rw (c .before .before .match .keys24)
+
+returns-25 : tie.Need-returns-25
+returns-25 c = rw (c .before .before .match .keys25)
+
+returns-26 : tie.Need-returns-26
+returns-26 c = rw (c .before .before .match .keys26)
+
+returns-27 : tie.Need-returns-27
+returns-27 c = sym (List·getD-eq-default names (replicate 28 32) (past (c .before .args .call) (c .match .rest)))
 
 pub name-of-spec : {M : Type 1} → statement M
 name-of-spec =
@@ -97,4 +112,9 @@ name-of-spec =
     returns-19
     returns-20
     returns-21
-    returns-22)
+    returns-22
+    returns-23
+    returns-24
+    returns-25
+    returns-26
+    returns-27)

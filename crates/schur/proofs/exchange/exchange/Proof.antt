@@ -17,11 +17,11 @@ use Rattle.schur.proofs.exchange.exchange.Statement.{statement}
 use Rattle.schur.proofs.exchange.exchange.Tie as tie
 
 abbrev Inv-loop : tie.InvT-loop
-Inv-loop t₀ u₀ n j n1 n2 todo₀ left₀ swaps₀ declined₀ t u todo left swaps declined =
-    (length t ≡ length t₀) × (left ≤ 3) × (length todo ≡ 3) × Reached n u₀ t u (waiting left todo) swaps declined (exchange binary64 n n j n1 n2 t₀)
+Inv-loop t₀ u₀ ld n j n1 n2 todo₀ left₀ swaps₀ declined₀ t u todo left swaps declined =
+    (length t ≡ length t₀) × (left ≤ 3) × (length todo ≡ 3) × Reached ld n u₀ t u (waiting left todo) swaps declined (exchange binary64 ld n j n1 n2 t₀)
 
 abbrev μ-loop : tie.MeasureT-loop
-μ-loop t₀ u₀ n j n1 n2 todo₀ left₀ swaps₀ declined₀ t u todo left swaps declined = 2 * pairs (waiting left todo) - left
+μ-loop t₀ u₀ ld n j n1 n2 todo₀ left₀ swaps₀ declined₀ t u todo left swaps declined = 2 * pairs (waiting left todo) - left
 
 small-at-requires : tie.Need-small-at-requires Inv-loop μ-loop
 small-at-requires c κs = tt

@@ -32,7 +32,7 @@ returns c =
     let x = c .before .before .before .before .schur-swap-11 in
     let i = c .before .before .before .before .before .before .before in
     let r = i .before .before .before .pre .2 in
-    rw (first r (i .if1 .taken), second r (i .if1 .taken)) (single-step _ _ _ (x .ensures) (x .kept .1 .0), lit≤ tt, lit≤ tt)
+    rw (first r (i .if1 .taken), second r (i .if1 .taken)) (single-step _ _ _ _ (x .ensures) (x .kept .1 .0), lit≤ tt, lit≤ tt)
 
 exchange-requires : tie.Need-exchange-requires
 exchange-requires c κs = search needs

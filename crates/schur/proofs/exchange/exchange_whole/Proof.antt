@@ -37,7 +37,7 @@ returns c =
     let a = c .before .before .before .before in
     let b = a .before .before .before .before .before .before .before in
     let d = b .before .before .before .before .before .before .before in
-    let w = d .swap-of in (whole-step _ _ _ _ _ (w .ensures .0) (w .kept .1 .0) (b .standardise-if .ensures) (b .standardise-if .kept .1 .0) (a .standardise-if2 .ensures), w .ensures .1, w .ensures .2)
+    let w = d .swap-of in (whole-step _ _ _ _ _ _ (w .ensures .0) (w .kept .1 .0) (b .standardise-if .ensures) (b .standardise-if .kept .1 .0) (a .standardise-if2 .ensures), w .ensures .1, w .ensures .2)
 
 pub exchange-whole-spec : {M : Type 1} → statement M
 exchange-whole-spec =

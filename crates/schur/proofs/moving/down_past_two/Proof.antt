@@ -26,7 +26,7 @@ exchanging-requires-2 c κs =
     let k = c1 .exchanging .kept in let p = c2 .pre in let x = c1 .exchanging .ensures .1 in (resized (p .0) (k .0), still (p .1) (k .1 .0), search needs, search needs, search needs)
 
 add-arrived : tie.Need-add-arrived
-add-arrived c = search needs
+add-arrived c = let p = c .before .before .before .before .before .before .before .before .before .before .before .before .before .before .before .before .before .before .before .pre in let m = p .0 .small in let h = p .2 in search needs
 
 arrived-requires : tie.Need-arrived-requires
 arrived-requires c κs = search needs
@@ -43,7 +43,7 @@ returns c =
     let c2 = c1 .before .before .before .before .before .before .before in
     let c3 = c2 .before .before .before in
     let c4 = c3 .before in
-    let x = c2 .exchanging .ensures in let y = c1 .exchanging2 .ensures in let z = c .arrived .ensures in (λ u₀ M s. stands-as (down-split _ M _ (M .nbf) _ (s .here) refl (s .step .done .form) (sym (c4 .zero-below .ensures) ∙ c3 .if1 .taken)) (z .0 _ _ _ u₀ _ (y .0 u₀ _ (x .0 u₀ M s))), search needs)
+    let x = c2 .exchanging .ensures in let y = c1 .exchanging2 .ensures in let z = c .arrived .ensures in (λ u₀ M s. stands-as (down-split _ _ M _ (M .nbf) _ (s .here) refl (s .step .done .form) (sym (c4 .zero-below .ensures) ∙ c3 .if1 .taken)) (z .0 _ _ _ _ u₀ _ (y .0 u₀ _ (x .0 u₀ M s))), search needs)
 
 exchanging-requires-3 : tie.Need-exchanging-requires-3
 exchanging-requires-3 c κs = search needs
@@ -65,7 +65,7 @@ returns-2 c =
     let c1 = c .before .before .before .before .before in
     let c2 = c1 .before .before .before in
     let c3 = c2 .before in
-    let x = c1 .exchanging3 .ensures in let z = c .arrived2 .ensures in (λ u₀ M s. stands-as (down-two _ M _ (M .nbf) _ (s .here) refl (s .step .done .form) (sym (c3 .zero-below .ensures) ∙ c2 .if1 .left)) (z .0 _ _ _ u₀ _ (x .0 u₀ M s)), search needs)
+    let x = c1 .exchanging3 .ensures in let z = c .arrived2 .ensures in (λ u₀ M s. stands-as (down-two _ _ M _ (M .nbf) _ (s .here) refl (s .step .done .form) (sym (c3 .zero-below .ensures) ∙ c2 .if1 .left)) (z .0 _ _ _ _ u₀ _ (x .0 u₀ M s)), search needs)
 
 pub down-past-two-spec : {M : Type 1} → statement M
 down-past-two-spec =

@@ -40,7 +40,7 @@ returns c =
     let c2 = c1 .before .before .before in
     let c3 = c2 .before .before .before .before .before in
     let c4 = c3 .before .before .before in
-    let x = c3 .exchanging .ensures in let y = c1 .exchanging2 .ensures in let z = c .arrived .ensures in let w = c4 .size-above .ensures in (λ u₀ M s. stands-as (up-one-is _ M _ (M .nbf) _ (s .here) refl (s .step .done .form) _ (w .0) (c2 .if1 .taken)) (z .0 _ _ _ u₀ _ (y .0 u₀ _ (x .0 u₀ M s))), search needs)
+    let x = c3 .exchanging .ensures in let y = c1 .exchanging2 .ensures in let z = c .arrived .ensures in let w = c4 .size-above .ensures in (λ u₀ M s. stands-as (up-one-is _ _ M _ (M .nbf) _ (s .here) refl (s .step .done .form) _ (w .0) (c2 .if1 .taken)) (z .0 _ _ _ _ u₀ _ (y .0 u₀ _ (x .0 u₀ M s))), search needs)
 
 up-past-two-requires : tie.Need-up-past-two-requires
 up-past-two-requires c κs =
@@ -62,7 +62,7 @@ returns-2 c =
     let c2 = c1 .before .before .before in
     let c3 = c2 .before .before .before .before .before in
     let c4 = c3 .before .before .before in
-    let x = c3 .exchanging .ensures in let z = c1 .up-past-two .ensures in let w = c4 .size-above .ensures in (λ u₀ M s. stands-as (up-past-is _ M _ (M .nbf) _ (s .here) refl (s .step .done .form) _ (w .0) (c2 .if1 .left)) (z .0 u₀ _ (x .0 u₀ M s)), search needs)
+    let x = c3 .exchanging .ensures in let z = c1 .up-past-two .ensures in let w = c4 .size-above .ensures in (λ u₀ M s. stands-as (up-past-is _ _ M _ (M .nbf) _ (s .here) refl (s .step .done .form) _ (w .0) (c2 .if1 .left)) (z .0 u₀ _ (x .0 u₀ M s)), search needs)
 
 pub up-apart-spec : {M : Type 1} → statement M
 up-apart-spec =

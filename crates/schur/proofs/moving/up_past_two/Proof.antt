@@ -43,7 +43,7 @@ returns c =
     let c2 = c1 .before .before .before .before .before .before .before in
     let c3 = c2 .before .before .before in
     let c4 = c3 .before in
-    let x = c2 .exchanging .ensures in let y = c1 .exchanging2 .ensures in let z = c .arrived .ensures in (λ u₀ M s. stands-as (up-split _ M _ (M .nbf) _ (s .here) refl (s .step .done .form) (sym (c4 .zero-below .ensures) ∙ c3 .if1 .taken)) (z .0 _ _ _ u₀ _ (y .0 u₀ _ (x .0 u₀ M s))), search needs)
+    let x = c2 .exchanging .ensures in let y = c1 .exchanging2 .ensures in let z = c .arrived .ensures in (λ u₀ M s. stands-as (up-split _ _ M _ (M .nbf) _ (s .here) refl (s .step .done .form) (sym (c4 .zero-below .ensures) ∙ c3 .if1 .taken)) (z .0 _ _ _ _ u₀ _ (y .0 u₀ _ (x .0 u₀ M s))), search needs)
 
 sub-exchanging-2 : tie.Need-sub-exchanging-2
 sub-exchanging-2 c = search needs
@@ -68,7 +68,7 @@ returns-2 c =
     let c1 = c .before .before .before .before .before in
     let c2 = c1 .before .before .before in
     let c3 = c2 .before in
-    let x = c1 .exchanging3 .ensures in let z = c .arrived2 .ensures in (λ u₀ M s. stands-as (up-two _ M _ (M .nbf) _ (s .here) refl (s .step .done .form) (sym (c3 .zero-below .ensures) ∙ c2 .if1 .left)) (z .0 _ _ _ u₀ _ (x .0 u₀ M s)), search needs)
+    let x = c1 .exchanging3 .ensures in let z = c .arrived2 .ensures in (λ u₀ M s. stands-as (up-two _ _ M _ (M .nbf) _ (s .here) refl (s .step .done .form) (sym (c3 .zero-below .ensures) ∙ c2 .if1 .left)) (z .0 _ _ _ _ u₀ _ (x .0 u₀ M s)), search needs)
 
 pub up-past-two-spec : {M : Type 1} → statement M
 up-past-two-spec =

@@ -19,7 +19,7 @@ same-length c = search needs
 returns : tie.Need-returns
 returns c =
     let c1 = c .before in
-    stands-as (stays-is _ _ _ _ (c .if1 .taken)) (starts _ _ _ _ _ (c1 .size-at .ensures .0))
+    stands-as (stays-is _ _ _ _ _ (c .if1 .taken)) (starts _ _ _ _ _ _ (c1 .size-at .ensures .0))
 
 size-at-requires-2 : tie.Need-size-at-requires-2
 size-at-requires-2 c κs = search needs
@@ -49,7 +49,7 @@ returns-2 c =
     let c4 = c3 .before .before in
     let c5 = c4 .before in
     let c6 = c5 .before in
-    stands-as (goes-down _ _ _ _ (c5 .if1 .left) (c4 .if2 .taken) _ _ _ (c6 .size-at .ensures .0) (c3 .size-at2 .ensures .0) (c2 .goal-down .ensures .0)) (c1 .move-down .ensures _ _ (starts _ _ _ _ _ (c6 .size-at .ensures .0)))
+    stands-as (goes-down _ _ _ _ _ (c5 .if1 .left) (c4 .if2 .taken) _ _ _ (c6 .size-at .ensures .0) (c3 .size-at2 .ensures .0) (c2 .goal-down .ensures .0)) (c1 .move-down .ensures _ _ (starts _ _ _ _ _ _ (c6 .size-at .ensures .0)))
 
 move-up-requires : tie.Need-move-up-requires
 move-up-requires c κs =
@@ -69,7 +69,7 @@ returns-3 c =
     let c2 = c1 .before .before .before in
     let c3 = c2 .before in
     let c4 = c3 .before in
-    stands-as (goes-up _ _ _ _ (c3 .if1 .left) (c2 .if2 .left)) (c1 .move-up .ensures _ _ (starts _ _ _ _ _ (c4 .size-at .ensures .0)))
+    stands-as (goes-up _ _ _ _ _ (c3 .if1 .left) (c2 .if2 .left)) (c1 .move-up .ensures _ _ (starts _ _ _ _ _ _ (c4 .size-at .ensures .0)))
 
 pub move-from-spec : {M : Type 1} → statement M
 move-from-spec =

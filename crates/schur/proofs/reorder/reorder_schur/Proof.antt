@@ -31,14 +31,14 @@ first-row-requires c κs =
     let c1 = c .before in
     let c2 = c1 .before in
     let c3 = c2 .before .before .before .before .before in
-    let q = c3 .args in let z = move-accepted (q .n) (q .t .now) (q .u .now) (q .from) (q .to) (sym (c2 .move-line .ensures) ∙ c1 .if1 .left) in (z .0, z .2)
+    let q = c3 .args in let z = move-accepted (q .ld) (q .n) (q .t .now) (q .u .now) (q .from) (q .to) (sym (c2 .move-line .ensures) ∙ c1 .if1 .left) in (z .0, z .2)
 
 first-row-requires-2 : tie.Need-first-row-requires-2
 first-row-requires-2 c κs =
     let c1 = c .before .before .before in
     let c2 = c1 .before in
     let c3 = c2 .before .before .before .before .before in
-    let q = c3 .args in let z = move-accepted (q .n) (q .t .now) (q .u .now) (q .from) (q .to) (sym (c2 .move-line .ensures) ∙ c1 .if1 .left) in (z .0, z .3)
+    let q = c3 .args in let z = move-accepted (q .ld) (q .n) (q .t .now) (q .u .now) (q .from) (q .to) (sym (c2 .move-line .ensures) ∙ c1 .if1 .left) in (z .0, z .3)
 
 move-from-requires : tie.Need-move-from-requires
 move-from-requires c κs =
@@ -47,7 +47,7 @@ move-from-requires c κs =
     let c3 = c2 .before .before in
     let c4 = c3 .before in
     let c5 = c4 .before .before .before .before .before in
-    let q = c5 .args in let z = move-accepted (q .n) (q .t .now) (q .u .now) (q .from) (q .to) (sym (c4 .move-line .ensures) ∙ c3 .if1 .left) in (z .0, z .1, lt-of-le-of-lt (c2 .first-row .ensures .1) (z .2), lt-of-le-of-lt (c1 .first-row2 .ensures .1) (z .3))
+    let q = c5 .args in let z = move-accepted (q .ld) (q .n) (q .t .now) (q .u .now) (q .from) (q .to) (sym (c4 .move-line .ensures) ∙ c3 .if1 .left) in (z .0, z .1, lt-of-le-of-lt (c2 .first-row .ensures .1) (z .2), lt-of-le-of-lt (c1 .first-row2 .ensures .1) (z .3))
 
 same-length-3 : tie.Need-same-length-3
 same-length-3 c = search needs

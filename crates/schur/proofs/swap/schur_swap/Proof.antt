@@ -30,7 +30,7 @@ exchange-requires c κs =
     let c1 = c .before .before in
     let c2 = c1 .before in
     let c3 = c2 .before .before .before .before .before in
-    let q = c3 .args in exchange-accepted (q .n) (q .t .now) (q .u .now) (q .j0) (q .n1) (q .n2) (sym (c2 .exchange-line .ensures) ∙ c1 .if1 .left)
+    let q = c3 .args in exchange-accepted (q .ld) (q .n) (q .t .now) (q .u .now) (q .j0) (q .n1) (q .n2) (sym (c2 .exchange-line .ensures) ∙ c1 .if1 .left)
 
 same-length-3 : tie.Need-same-length-3
 same-length-3 c = search needs

@@ -32,8 +32,8 @@ reflect4-run-requires c κs =
     let a1 = a2 .before in
     let e = a1 .before in
     let h = e .before .before .pre in
-    let z = present (h .0) (h .1) (e .if1 .left) in
-    (cols z (h .2) (le-refl _) (a1 .place .ensures .0), cols z (h .3) (le-refl _) (a2 .place2 .ensures .0), cols z (h .4) (le-refl _) (a3 .place3 .ensures .0), cols z (h .5) (le-refl _) (a4 .place4 .ensures .0))
+    let z = present (h .0) (h .1) (h .2) (h .3) (e .if1 .left) in
+    (cols z (h .4) (le-refl _) (a1 .place .ensures .0), cols z (h .5) (le-refl _) (a2 .place2 .ensures .0), cols z (h .6) (le-refl _) (a3 .place3 .ensures .0), cols z (h .7) (le-refl _) (a4 .place4 .ensures .0))
 
 same-length : tie.Need-same-length
 same-length c = search needs

@@ -1,6 +1,7 @@
 -- `swaps::swap_12::schur_swap_21` meets its contract. Assumes nothing.
 use Rattle.model.specs.Columns.{onFactor}
 use Rattle.model.specs.Swaps.{swap21}
+use native.Mathlib.Omega.{arith}
 use borrow.Author.Needs.{needs}
 use Rattle.swaps.proofs.swap_12.schur_swap_21.Statement.{statement}
 use Rattle.swaps.proofs.swap_12.schur_swap_21.Tie as tie
@@ -18,7 +19,8 @@ add-reflect3-factor-2 : tie.Need-add-reflect3-factor-2
 add-reflect3-factor-2 c = search needs
 
 reflect3-factor-requires : tie.Need-reflect3-factor-requires
-reflect3-factor-requires c κs = search needs
+reflect3-factor-requires c κs =
+    let h = c .before .before .before .before .before .before .before .before .before .pre in let k = h .2 in let m = h .0 in (h .1, m .small, m .fits, m .near, omega arith, omega arith, omega arith)
 
 same-length : tie.Need-same-length
 same-length c = search needs

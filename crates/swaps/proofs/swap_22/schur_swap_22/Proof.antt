@@ -47,7 +47,7 @@ add-reflect4-factor-3 c = search needs
 reflect4-factor-requires : tie.Need-reflect4-factor-requires
 reflect4-factor-requires c κs =
     let a = c .before .before .before .before .before .before .before .before .before .before .before .before .before in
-    let h = a .pre in let k = h .2 in let m = h .0 .small in (h .1, m, omega arith, omega arith, omega arith, omega arith)
+    let h = a .pre in let k = h .2 in let m = h .0 in (h .1, m .small, m .fits, m .near, omega arith, omega arith, omega arith, omega arith)
 
 same-length-2 : tie.Need-same-length-2
 same-length-2 c = search needs
