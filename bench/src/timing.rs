@@ -37,8 +37,9 @@ impl Spread {
 
 impl Times {
     /// `run(side, place)` restores its buffers, and hands back the time of `runs` runs alone; the places
-    /// of an archive take turns. The repetitions that are kept take the budget, all together no more
-    /// than five times as long.
+    /// of an archive take turns. Each is run twice and timed the second time, with its code in the
+    /// caches. The repetitions that are kept take the budget, all together no more than five times as
+    /// long.
     pub fn take(sides: usize, runs: usize, budget: Duration, mut run: impl FnMut(usize, usize) -> Duration) -> Times {
         const WARM: usize = 3;
         const LEAST: usize = 41;
@@ -59,6 +60,7 @@ impl Times {
             let (mut row, mut slowest, place) = (vec![0.0; sides], probe(), turn / sides % PLACES);
             for k in 0..sides {
                 let side = (turn + k) % sides;
+                run(side, place);
                 row[side] = (run(side, place).as_nanos() as f64 - empty).max(1.0) / runs as f64;
                 slowest = slowest.max(probe());
             }
