@@ -3,8 +3,9 @@
 
 use crate::exact::{Square, Wide, norm};
 use crate::forms::{Form, Kind, unit};
+use crate::rows::SIZES;
 use crate::sides::Side;
-use crate::speed::{SIZES, Sides};
+use crate::speed::Sides;
 use crate::table::Table;
 
 const NAMES: [&str; 3] = ["ours", "LAPACK", "OpenBLAS"];

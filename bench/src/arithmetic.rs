@@ -1,11 +1,12 @@
 //! Times the root beside the processor's instruction, and the modulus beside the Rust's and libm's.
 
+use crate::archive::{Archive, OURS, PLACES};
 use crate::forms::between;
 use crate::opaque::black_box;
-use crate::report::{Report, nanoseconds, shown};
+use crate::report::{Report, middle_time, shown};
 use crate::rng::Rng;
-use crate::sides::*;
-use crate::speed::{Plan, SEED};
+use crate::rows::{Plan, SEED};
+use crate::sides::{called_sqrt, hardware_sqrt, rust_hypot};
 use crate::table::Table;
 use crate::timing::Times;
 use std::time::{Duration, Instant};
@@ -34,17 +35,21 @@ fn in_turn(numbers: &[(f64, f64)], f: impl Fn(f64, f64) -> f64) -> Duration {
     start.elapsed()
 }
 
-pub fn arithmetic(plan: &Plan, report: &mut Report) -> Table {
+/// Pairs of numbers of many sizes, and pairs alike in size, as in a rotation.
+fn pairs() -> [Vec<(f64, f64)>; 2] {
     let rng = &mut Rng::new(SEED, "numbers", 0);
     let mut wide = || between(rng, 1.0, 2.0) * 2f64.powi(rng.between(-40, 40) as i32);
-    let numbers: Vec<(f64, f64)> = (0..COUNT).map(|_| (wide(), wide())).collect();
-    // One row of a pair alike in size, as in a rotation.
+    let numbers = (0..COUNT).map(|_| (wide(), wide())).collect();
     let rng = &mut Rng::new(SEED, "pairs", 0);
-    let alike: Vec<(f64, f64)> = (0..COUNT).map(|_| (between(rng, -2.0, 2.0), between(rng, -2.0, 2.0))).collect();
+    [numbers, (0..COUNT).map(|_| (between(rng, -2.0, 2.0), between(rng, -2.0, 2.0))).collect()]
+}
+
+pub fn arithmetic(plan: &Plan, report: &mut Report) -> Table {
+    let [numbers, alike] = pairs();
     let mut out = vec![0.0; COUNT];
 
     let mut table = Table::new(plan.markdown, &["", "beside", "ours, ns", "theirs, ns", "ours/theirs", "to reach"]);
-    let mut row = |name: &str, beside: &str, most: Option<f64>, run: &mut dyn FnMut(usize) -> Duration| {
+    let mut row = |name: &str, beside: &str, most: Option<f64>, run: &mut dyn FnMut(usize, usize) -> Duration| {
         if !plan.wants(&format!("{name} {beside}"), None) {
             return;
         }
@@ -54,39 +59,58 @@ pub fn arithmetic(plan: &Plan, report: &mut Report) -> Table {
         table.add(vec![
             name.to_string(),
             beside.to_string(),
-            nanoseconds(&times, 0),
-            nanoseconds(&times, 1),
+            middle_time(&times, 0),
+            middle_time(&times, 1),
             shown(ratio),
             report.judged(most, &[beside], &[ratio]),
         ]);
     };
-    let ours = |x: f64, _: f64| our_sqrt(x);
-    row("sqrt, each by itself", "the instruction behind a call", Some(6.0), &mut |k| match k {
-        0 => each(&numbers, &mut out, ours),
+    let ours = |place: usize| move |x: f64, _: f64| OURS[place].sqrt(x);
+    let modulus = |place: usize| move |p: f64, q: f64| OURS[place].hypot(p, q);
+    row("sqrt, each by itself", "the instruction behind a call", Some(6.0), &mut |k, place| match k {
+        0 => each(&numbers, &mut out, ours(place)),
         _ => each(&numbers, &mut out, |x, _| black_box(called_sqrt as extern "C" fn(f64) -> f64)(x)),
     });
-    row("sqrt, each by itself", "the bare instruction", Some(6.0), &mut |k| match k {
-        0 => each(&numbers, &mut out, ours),
+    row("sqrt, each by itself", "the bare instruction", Some(6.0), &mut |k, place| match k {
+        0 => each(&numbers, &mut out, ours(place)),
         _ => each(&numbers, &mut out, |x, _| hardware_sqrt(x)),
     });
-    row("sqrt, each after the last", "the bare instruction", Some(6.0), &mut |k| match k {
-        0 => in_turn(&numbers, ours),
+    row("sqrt, each after the last", "the bare instruction", Some(6.0), &mut |k, place| match k {
+        0 => in_turn(&numbers, ours(place)),
         _ => in_turn(&numbers, |x, _| hardware_sqrt(x)),
     });
     for (numbers, sort) in [(&numbers, "any sizes"), (&alike, "like sizes")] {
         let name = format!("hypot, each by itself, {sort}");
-        row(&name, "the Rust helper", None, &mut |k| match k {
-            0 => each(numbers, &mut out, our_hypot),
+        row(&name, "the Rust helper", None, &mut |k, place| match k {
+            0 => each(numbers, &mut out, modulus(place)),
             _ => each(numbers, &mut out, |p, q| rust_hypot(p, q)),
         });
-        row(&name, "libm", None, &mut |k| match k {
-            0 => each(numbers, &mut out, our_hypot),
+        row(&name, "libm", None, &mut |k, place| match k {
+            0 => each(numbers, &mut out, modulus(place)),
             _ => each(numbers, &mut out, f64::hypot),
         });
     }
-    row("hypot, each after the last, like sizes", "the Rust helper", None, &mut |k| match k {
-        0 => in_turn(&alike, our_hypot),
+    row("hypot, each after the last, like sizes", "the Rust helper", None, &mut |k, place| match k {
+        0 => in_turn(&alike, modulus(place)),
         _ => in_turn(&alike, |p, q| rust_hypot(p, q)),
     });
     table
+}
+
+/// The root and the modulus of several archives: the rows that are wanted and their times.
+pub fn archives_times(plan: &Plan, archives: &[&'static [Archive; PLACES]]) -> Vec<(String, Times)> {
+    let [numbers, alike] = pairs();
+    let (mut out, mut rows) = (vec![0.0; COUNT], Vec::new());
+    let mut row = |name: &str, run: &mut dyn FnMut(&'static Archive) -> Duration| {
+        if plan.wants(name, None) {
+            let times = Times::take(archives.len(), COUNT, plan.budget, |k, place| run(&archives[k][place]));
+            rows.push((name.to_string(), times));
+        }
+    };
+    row("sqrt, each by itself", &mut |archive| each(&numbers, &mut out, |x, _| archive.sqrt(x)));
+    row("sqrt, each after the last", &mut |archive| in_turn(&numbers, |x, _| archive.sqrt(x)));
+    row("hypot, each by itself, any sizes", &mut |archive| each(&numbers, &mut out, |p, q| archive.hypot(p, q)));
+    row("hypot, each by itself, like sizes", &mut |archive| each(&alike, &mut out, |p, q| archive.hypot(p, q)));
+    row("hypot, each after the last, like sizes", &mut |archive| in_turn(&alike, |p, q| archive.hypot(p, q)));
+    rows
 }

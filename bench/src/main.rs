@@ -2,10 +2,12 @@
 //! errors. bench/run builds it and says where the libraries are.
 
 mod accuracy;
+mod archive;
 #[allow(dead_code)]
 #[path = "../../oracle/src/arith.rs"]
 mod arith;
 mod arithmetic;
+mod beside;
 mod exact;
 mod forms;
 mod lapack;
@@ -18,6 +20,7 @@ mod report;
 #[allow(dead_code)]
 #[path = "../../oracle/src/generate/rng.rs"]
 mod rng;
+mod rows;
 #[allow(dead_code)]
 #[path = "../../oracle/src/shim/mod.rs"]
 mod shim;
@@ -29,7 +32,9 @@ mod table;
 mod taken;
 mod timing;
 
+use archive::OURS;
 use lapack::Lapack;
+use rows::Plan;
 use shim::perm;
 use sides::Side;
 use std::process::ExitCode;
@@ -61,12 +66,15 @@ fn run() -> Result<(), String> {
     if let Some(unknown) = words.iter().find(|word| word.starts_with('-')) {
         return Err(format!("no option {unknown}; see the head of bench/run"));
     }
-    let sides = speed::Sides { all: [Side::Ours, Side::Rust, open("BENCH_LAPACK")?, open("BENCH_OPENBLAS")?] };
-    if words.first().map_or(false, |word| word == "accuracy") {
-        accuracy::run(&sides, if quick { 4 } else { 50 }, markdown);
-    } else {
-        let budget = Duration::from_millis(if quick { 60 } else { 600 });
-        speed::run(&speed::Plan { words, budget, markdown, least }, &sides);
+    let ours = Side::Archive(&OURS, 0);
+    let sides =
+        || Ok::<_, String>(speed::Sides { all: [ours, Side::Rust, open("BENCH_LAPACK")?, open("BENCH_OPENBLAS")?] });
+    let budget = Duration::from_millis(if quick { 60 } else { 600 });
+    let command = words.first().cloned().unwrap_or_default();
+    match command.as_str() {
+        "accuracy" => accuracy::run(&sides()?, if quick { 4 } else { 50 }, markdown),
+        "beside" => beside::run(&Plan { words: words.split_off(1), budget, markdown, least }),
+        _ => speed::run(&Plan { words, budget, markdown, least }, &sides()?),
     }
     Ok(())
 }

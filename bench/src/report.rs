@@ -1,6 +1,6 @@
 //! Ratios as text, what was to be reached, and an overview of all rows.
 
-use crate::speed::SIZES;
+use crate::rows::SIZES;
 use crate::table::Table;
 use crate::timing::{Spread, Times};
 
@@ -15,10 +15,14 @@ pub fn shown(x: Spread) -> String {
 }
 
 /// The middle time of a side, marked where the core was shared all the while.
-pub fn nanoseconds(times: &Times, side: usize) -> String {
-    let x = times.nanoseconds(side);
-    let digits = if x.middle < 100.0 { 1 } else { 0 };
-    format!("{:.digits$}{}", x.middle, if times.shared { " *" } else { "" })
+pub fn middle_time(times: &Times, side: usize) -> String {
+    nanoseconds(times.nanoseconds(side).middle, times)
+}
+
+/// A time out of `times`, with the same mark.
+pub fn nanoseconds(x: f64, times: &Times) -> String {
+    let digits = if x < 100.0 { 1 } else { 0 };
+    format!("{x:.digits$}{}", if times.shared { " *" } else { "" })
 }
 
 /// Compared as it is printed.

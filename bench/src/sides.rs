@@ -1,52 +1,34 @@
-//! Who is timed: our archive, the Rust, and two LAPACKs. All take a stride `ld`, the Rust in its views.
+//! Who is timed: our archive or another, the Rust, and two LAPACKs. All take a stride `ld`, the Rust in
+//! its views.
 
+use crate::archive::{Archive, PLACES};
 use crate::arith;
 use crate::lapack::Lapack;
 use crate::shim::*;
 use crate::taken::{eigen, evd};
 
-extern "C" {
-    fn vx_reorder_schur(
-        n: usize,
-        ld: usize,
-        t: *mut f64,
-        t_len: usize,
-        u: *mut f64,
-        u_len: usize,
-        from: usize,
-        to: usize,
-        landed: *mut usize,
-        swaps: *mut usize,
-        declined: *mut usize,
-    ) -> usize;
-    fn vx_evd_from_real_schur(n: usize, ld: usize, t: *const f64, t_len: usize, v: *mut f64, v_len: usize) -> usize;
-    fn vx_block_values(
-        n: usize,
-        ld: usize,
-        t: *const f64,
-        t_len: usize,
-        re: *mut f64,
-        re_len: usize,
-        im: *mut f64,
-        im_len: usize,
-    ) -> usize;
-    fn vx_sqrt(x: f64) -> f64;
-    fn vx_hypot(p: f64, q: f64) -> f64;
-}
-
 #[derive(Clone, Copy)]
 pub enum Side {
-    Ours,
+    /// The copies of an archive, and which one is called.
+    Archive(&'static [Archive; PLACES], usize),
     Rust,
     Lapack(Lapack),
 }
 
 impl Side {
+    /// The same side; an archive's copy at that place.
+    pub fn at(self, place: usize) -> Side {
+        match self {
+            Side::Archive(copies, _) => Side::Archive(copies, place),
+            _ => self,
+        }
+    }
+
     /// A move; hands back 0 if it was carried out.
     #[inline(always)]
     pub fn reorder(&self, n: usize, ld: usize, t: &mut [f64], u: &mut [f64], from: usize, to: usize) -> usize {
         match self {
-            Side::Ours => our_reorder(n, ld, t, u, from, to).0,
+            Side::Archive(copies, place) => copies[*place].reorder(n, ld, t, u, from, to).0,
             Side::Rust => rust_reorder(n, ld, t, u, from, to),
             Side::Lapack(lapack) => lapack.reorder(n, ld, t, u, from, to) as usize,
         }
@@ -55,33 +37,41 @@ impl Side {
     #[inline(always)]
     pub fn vectors(&self, n: usize, ld: usize, t: &[f64], v: &mut [f64]) -> usize {
         match self {
-            Side::Ours => unsafe { vx_evd_from_real_schur(n, ld, t.as_ptr(), t.len(), v.as_mut_ptr(), v.len()) },
+            Side::Archive(copies, place) => copies[*place].vectors(n, ld, t, v),
             Side::Rust => rust_vectors(n, ld, t, v),
             Side::Lapack(lapack) => lapack.vectors(n, ld, t, v) as usize,
         }
     }
+
+    /// LAPACK has no routine for this.
+    #[inline(always)]
+    pub fn values(&self, n: usize, ld: usize, t: &[f64], out: &mut Values) -> usize {
+        match self {
+            Side::Archive(copies, place) => copies[*place].values(n, ld, t, &mut out.re, &mut out.im),
+            Side::Rust => rust_values(n, ld, t, &mut out.all),
+            Side::Lapack(_) => unreachable!("LAPACK has no routine that only reads the values off a form"),
+        }
+    }
 }
 
-/// The number and the counts: landed, swaps, declined.
-#[inline(always)]
-pub fn our_reorder(n: usize, ld: usize, t: &mut [f64], u: &mut [f64], from: usize, to: usize) -> (usize, [usize; 3]) {
-    let [mut landed, mut swaps, mut declined] = [0; 3];
-    let number = unsafe {
-        vx_reorder_schur(
-            n,
-            ld,
-            t.as_mut_ptr(),
-            t.len(),
-            u.as_mut_ptr(),
-            u.len(),
-            from,
-            to,
-            &mut landed,
-            &mut swaps,
-            &mut declined,
-        )
-    };
-    (number, [landed, swaps, declined])
+/// Where a side writes values: an archive in two lists, the Rust in one.
+pub struct Values {
+    re: Vec<f64>,
+    im: Vec<f64>,
+    all: Vec<Complex<f64>>,
+}
+
+impl Values {
+    pub fn new(n: usize) -> Values {
+        Values { re: vec![0.0; n], im: vec![0.0; n], all: vec![Complex::new(0.0, 0.0); n] }
+    }
+
+    /// What an archive and the Rust wrote is the same in every bit.
+    pub fn agree(&self) -> bool {
+        let bits = |x: &[f64]| x.iter().map(|x| x.to_bits()).collect::<Vec<u64>>();
+        let (re, im): (Vec<f64>, Vec<f64>) = self.all.iter().map(|x| (x.re, x.im)).unzip();
+        bits(&self.re) == bits(&re) && bits(&self.im) == bits(&im)
+    }
 }
 
 #[inline(never)]
@@ -101,23 +91,12 @@ fn rust_vectors(n: usize, ld: usize, t: &[f64], v: &mut [f64]) -> usize {
     0
 }
 
-pub fn our_values(n: usize, ld: usize, t: &[f64], re: &mut [f64], im: &mut [f64]) -> usize {
-    unsafe { vx_block_values(n, ld, t.as_ptr(), t.len(), re.as_mut_ptr(), re.len(), im.as_mut_ptr(), im.len()) }
-}
-
 /// The Rust's loop writes vectors too; here they have no rows.
 #[inline(never)]
-pub fn rust_values(n: usize, ld: usize, t: &[f64], values: &mut [Complex<f64>]) {
+fn rust_values(n: usize, ld: usize, t: &[f64], values: &mut [Complex<f64>]) -> usize {
     let (form, mut unused) = (MatRef::with_stride(t, n, n, ld), []);
     eigen::block_values(form, MatRef::from_slice(&[], 0, n), values, MatMut::from_slice(&mut unused, 0, n));
-}
-
-pub fn our_sqrt(x: f64) -> f64 {
-    unsafe { vx_sqrt(x) }
-}
-
-pub fn our_hypot(p: f64, q: f64) -> f64 {
-    unsafe { vx_hypot(p, q) }
+    0
 }
 
 #[inline(never)]

@@ -5,13 +5,15 @@
 //! core's other thread worked for another guest. A ratio then has two values. So a probe that keeps the
 //! units busy is timed around each side, and a repetition with a slow one is left out.
 
+use crate::archive::PLACES;
 use crate::opaque::black_box;
 use std::sync::atomic::{AtomicU64, Ordering};
 use std::time::{Duration, Instant};
 
-/// Nanoseconds for one run of each side, a list for each repetition.
+/// Nanoseconds for one run of each side, a list for each repetition, and the place it was timed at.
 pub struct Times {
     rows: Vec<Vec<f64>>,
+    places: Vec<usize>,
     /// The part of all repetitions that was left out, as their core was shared.
     pub left_out: f64,
     /// So few were left that all were taken.
@@ -34,9 +36,11 @@ impl Spread {
 }
 
 impl Times {
-    /// `run(side)` restores its buffers, and hands back the time of `runs` runs alone. The repetitions
-    /// that are kept take the budget, all together no more than five times as long.
-    pub fn take(sides: usize, runs: usize, budget: Duration, mut run: impl FnMut(usize) -> Duration) -> Times {
+    /// `run(side, place)` restores its buffers, and hands back the time of `runs` runs alone; the places
+    /// of an archive take turns. Each is run twice and timed the second time, with its code in the
+    /// caches. The repetitions that are kept take the budget, all together no more than five times as
+    /// long.
+    pub fn take(sides: usize, runs: usize, budget: Duration, mut run: impl FnMut(usize, usize) -> Duration) -> Times {
         const WARM: usize = 3;
         const LEAST: usize = 41;
         const MOST: usize = 20_001;
@@ -53,17 +57,18 @@ impl Times {
                 break;
             }
             let start = Instant::now();
-            let (mut row, mut slowest) = (vec![0.0; sides], probe());
+            let (mut row, mut slowest, place) = (vec![0.0; sides], probe(), turn / sides % PLACES);
             for k in 0..sides {
                 let side = (turn + k) % sides;
-                row[side] = (run(side).as_nanos() as f64 - empty).max(1.0) / runs as f64;
+                run(side, place);
+                row[side] = (run(side, place).as_nanos() as f64 - empty).max(1.0) / runs as f64;
                 slowest = slowest.max(probe());
             }
             if turn >= WARM && alone(slowest) {
-                kept.push(row);
+                kept.push((row, place));
                 spent += start.elapsed();
             } else if turn >= WARM {
-                left_out.push(row);
+                left_out.push((row, place));
             }
         }
         let part = left_out.len() as f64 / (kept.len() + left_out.len()) as f64;
@@ -71,28 +76,39 @@ impl Times {
         if shared {
             kept.append(&mut left_out);
         }
-        Times { rows: kept, left_out: part, shared }
+        let (rows, places) = kept.into_iter().unzip();
+        Times { rows, places, left_out: part, shared }
     }
 
     pub fn nanoseconds(&self, side: usize) -> Spread {
-        spread(self.rows.iter().map(|row| row[side]).collect())
+        spread(self.all(side))
     }
 
     /// Of one side to another, in each repetition; or of the least times of both, without a spread.
     pub fn ratio(&self, side: usize, other: usize, least: bool) -> Spread {
         if least {
-            let x = self.least(side) / self.least(other);
+            let x = least_of(self.all(side)) / least_of(self.all(other));
             return Spread { low: x, middle: x, high: x };
         }
         spread(self.rows.iter().map(|row| row[side] / row[other]).collect())
     }
 
-    /// The time that a twentieth of the repetitions stay below.
-    fn least(&self, side: usize) -> f64 {
-        let mut all: Vec<f64> = self.rows.iter().map(|row| row[side]).collect();
-        all.sort_by(f64::total_cmp);
-        all[all.len() / 20]
+    fn all(&self, side: usize) -> Vec<f64> {
+        self.rows.iter().map(|row| row[side]).collect()
     }
+
+    /// The middle or least time of a side at each place of the archives.
+    pub fn at_places(&self, side: usize, least: bool) -> Vec<f64> {
+        let at = |place| self.rows.iter().zip(&self.places).filter(move |(_, at)| **at == place);
+        let times = |place| at(place).map(|(row, _)| row[side]).collect();
+        (0..PLACES).map(|place| if least { least_of(times(place)) } else { spread(times(place)).middle }).collect()
+    }
+}
+
+/// The time that a twentieth stay below.
+fn least_of(mut all: Vec<f64>) -> f64 {
+    all.sort_by(f64::total_cmp);
+    all[all.len() / 20]
 }
 
 /// What reading the clock twice costs by itself.
