@@ -2,7 +2,7 @@
 //! the bench on these two alone, in one process. A figure is the mean of the middle times at the four
 //! places of a cache line; the last column has the least and largest ratio at one of them.
 
-use crate::archive::{OTHER, OURS, PLACES};
+use crate::archive::{OTHER, OURS};
 use crate::arithmetic::archives_times;
 use crate::forms::Form;
 use crate::report::nanoseconds;
@@ -33,7 +33,7 @@ impl Compared<'_> {
         };
         let [ours, other] = [0, 1].map(|side| times.at_places(side, self.plan.least));
         let ratios: Vec<f64> = ours.iter().zip(&other).map(|(ours, other)| ours / other).collect();
-        let [ours, other] = [ours, other].map(|times| times.iter().sum::<f64>() / PLACES as f64);
+        let [ours, other] = [ours, other].map(|times| times.iter().sum::<f64>() / times.len() as f64);
         self.rows += 1;
         self.above += usize::from(ours / other > LIMIT);
         self.largest = self.largest.max(ours / other);

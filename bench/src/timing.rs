@@ -97,11 +97,12 @@ impl Times {
         self.rows.iter().map(|row| row[side]).collect()
     }
 
-    /// The middle or least time of a side at each place of the archives.
+    /// The middle or least time of a side at each place of the archives, where a repetition was kept.
     pub fn at_places(&self, side: usize, least: bool) -> Vec<f64> {
         let at = |place| self.rows.iter().zip(&self.places).filter(move |(_, at)| **at == place);
-        let times = |place| at(place).map(|(row, _)| row[side]).collect();
-        (0..PLACES).map(|place| if least { least_of(times(place)) } else { spread(times(place)).middle }).collect()
+        let kept = (0..PLACES).map(|place| at(place).map(|(row, _)| row[side]).collect::<Vec<f64>>());
+        let kept = kept.filter(|times| !times.is_empty());
+        kept.map(|times| if least { least_of(times) } else { spread(times).middle }).collect()
     }
 }
 
