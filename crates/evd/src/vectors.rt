@@ -197,9 +197,9 @@ fn all_columns(ld: usize, n: usize, t: &[f64], v: &mut [f64])
 fn vectors_line(ld: usize, n: usize, t: &[f64], len: usize) -> usize
     ensures { λ r. ⌜ r ≡ furtherLine ld n (now (t .entry)) (not (eqb len (ld * n))) ⌝ }
 {
-    let line = size_line(ld, n, t);
-    if line != 0 {
-        return line;
+    let size = size_line(ld, n, t);
+    if size != 0 {
+        return size;
     }
     if len != ld * n {
         return 4;
