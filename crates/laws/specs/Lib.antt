@@ -1,3 +1,4 @@
 pub mod RootNearest
 pub mod Worked
 pub mod InOrder
+pub mod HalfDigits
