@@ -9,12 +9,10 @@ use lib.Dec.{T}
 use lib.Ieee.{binary64, ofBits, nanBits}
 use lib.Ieee.Bits.{nanBits-above}
 use Rattle.model.specs.Root.{root, sqrt}
-use Rattle.laws.proofs.WholeRoot.{root-is, le-root, root-lt}
+use Rattle.laws.proofs.WholeRoot.{root-is, le-root}
 use Rattle.laws.proofs.RootByDigits.{root-by-digits}
+use Rattle.digits.proofs.Short.{short}
 use Rattle.root.specs.Sqrt.{Parts, Even}
-
-pub short : (d r : ℕ) → d < 2 ^ 54 → r ≡ root (d * 2 ^ 54) → r < 2 ^ 54
-short d r h e = rw e (root-lt (d * 2 ^ 54) (root (d * 2 ^ 54)) (root-is (d * 2 ^ 54)) (2 ^ 54) (omega arith))
 
 pub finite-no-nan : (n : ℕ) → n < 0x7ff0_0000_0000_0000 → T (not (nanBits binary64 n))
 finite-no-nan n h = rw (nanBits-above binary64 n) (le→nltb (2047 * 2 ^ 52) (n % 2 ^ 63) (omega arith))
