@@ -2,3 +2,4 @@ pub mod RootNearest
 pub mod Worked
 pub mod InOrder
 pub mod HalfDigits
+pub mod ModulusNearest
