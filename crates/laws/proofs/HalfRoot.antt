@@ -57,7 +57,7 @@ twice-is n = go (eqb (R * R) n) (eqb→eq (R * R) n) eq→eqb
         }
 
 -- ---- the digits
-one-less : (c w : ℕ) → 0 < c → (2 * c - 1) * w + w ≡ 2 * c * w
+pub one-less : (c w : ℕ) → 0 < c → (2 * c - 1) * w + w ≡ 2 * c * w
 one-less zero w p = absurd (omega arith)
 one-less (suc c) w p = let e : 2 * suc c - 1 ≡ 2 * c + 1 = omega arith in rw e (omega arith)
 

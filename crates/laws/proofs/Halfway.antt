@@ -1,8 +1,7 @@
 -- The whole number nearest to a fraction, and how `round` treats R + 1/2 smallest values, where R has more digits than the format keeps. Assumes nothing.
 use mathlib.Core.Path.{_≡_, ap, _∙_}
-use mathlib.Core.Logic.{_⊎_, inl, inr}
 use Prim.Native.Nat.{ℕ, suc, _+_, _-_, _*_, _/_, _%_, _^_, _≤_, _<_, compare, Ordering, Ordering·lt, Ordering·eq, Ordering·gt}
-use native.Mathlib.Nat.{zero-lt-suc, mul-pos, mul-le-mul-right, lt-of-mul-lt-mul-right, div-add-mod', div-mul-le-self, lt-div-mul-add, mod-lt, mul-div-mul-right, eq-or-lt-of-le, pow-succ'}
+use native.Mathlib.Nat.{le-antisymm, le-of-suc-le-suc, lt-of-not-le, zero-lt-suc, mul-pos, mul-le-mul-right, lt-of-mul-lt-mul-right, div-add-mod', div-mul-le-self, lt-div-mul-add, mod-lt, mul-div-mul-right, pow-succ'}
 use native.Mathlib.Omega.{arith}
 use mathlib.Core.Bool.{not, false}
 use lib.Dec.{T, isLe, isEq, leb→le, nleb→lt, eqb→eq}
@@ -21,33 +20,37 @@ pub record Near (a b c : ℕ) : Type 0 where
   pub even-hi : 2 * a ≡ (2 * c + 1) * b → c % 2 ≡ 0
   pub even-lo : 2 * c * b ≡ 2 * a + b → c % 2 ≡ 0
 
-pub closest-is : (a b c : ℕ) → 0 < b → Near a b c → closest a b ≡ c
-closest-is a b c B n =
+pub closest-near : (a b : ℕ) → 0 < b → Near a b (closest a b)
+closest-near a b B =
     go (a / b) (a % b) (div-add-mod' a b) (mod-lt a B) (compare (a % b * 2) b) (leb→le (a % b * 2) b) (nleb→lt (a % b * 2) b) (eqb→eq (a % b * 2) b) eq→eqb
   where
-    cancel : (i j : ℕ) → i * b < j * b → i < j
-    cancel i j h = lt-of-mul-lt-mul-right b h
-
-    tie : (q : ℕ) → 2 * a ≡ (2 * q + 1) * b → (q ≡ c) ⊎ (q < c) → c ≤ q + 1 → q + q % 2 ≡ c
-    tie q e (inl s) m = let x = n .even-hi (e ∙ ap (λ (z : ℕ). (2 * z + 1) * b) s) in omega arith
-    tie q e (inr l) m = let s : c ≡ q + 1 = omega arith in let x = n .even-lo (ap (λ (z : ℕ). 2 * z * b) s ∙ omega arith) in omega arith
-
-    go : (q r : ℕ) → q * b + r ≡ a → r < b → (o : Ordering) → (T (isLe o) → r * 2 ≤ b) → (T (not (isLe o)) → b < r * 2) → (T (isEq o) → r * 2 ≡ b) → (r * 2 ≡ b → T (isEq o)) → nearest q o ≡ c
+    go : (q r : ℕ) → q * b + r ≡ a → r < b → (o : Ordering) → (T (isLe o) → r * 2 ≤ b) → (T (not (isLe o)) → b < r * 2) → (T (isEq o) → r * 2 ≡ b) → (r * 2 ≡ b → T (isEq o)) → Near a b (nearest q o)
     go q r e s Ordering·lt l g z i =
         let t = lt-of-le-ne (l tt) i in
-        let x = cancel (2 * q) (2 * c + 2) (omega (arith, n .hi)) in
-        let y = cancel (2 * c) (2 * q + 2) (omega (arith, n .lo)) in
-        omega arith
+        record { hi = omega arith; lo = omega arith; even-hi = λ x. absurd (omega arith); even-lo = λ x. absurd (omega arith) }
     go q r e s Ordering·eq l g z i =
         let t = z tt in
-        let x = cancel (2 * q + 1) (2 * c + 2) (omega (arith, n .hi)) in
-        let y = cancel (2 * c) (2 * q + 3) (omega (arith, n .lo)) in
-        tie q (omega arith) (eq-or-lt-of-le (omega arith)) (omega arith)
+        let c = q + q % 2 in
+        let x : q * b ≤ c * b = mul-le-mul-right b (omega arith) in
+        let y : c * b ≤ (q + 1) * b = mul-le-mul-right b (omega arith) in
+        record { hi = omega arith; lo = omega arith; even-hi = λ x. omega arith; even-lo = λ x. omega arith }
     go q r e s Ordering·gt l g z i =
         let t = g tt in
-        let x = cancel (2 * q + 1) (2 * c + 1) (omega (arith, n .hi)) in
-        let y = cancel (2 * c) (2 * q + 3) (omega (arith, n .lo)) in
-        omega arith
+        record { hi = omega arith; lo = omega arith; even-hi = λ x. absurd (omega arith); even-lo = λ x. absurd (omega arith) }
+
+-- only one number is so
+near-le : (a b c d : ℕ) → 0 < b → Near a b c → Near a b d → d ≤ c
+near-le a b c d B m n = le-of-suc-le-suc (lt-of-not-le next)
+  where
+    next : suc c ≤ d → ⊥
+    next g =
+        let x : 2 * d < 2 * c + 3 = lt-of-mul-lt-mul-right b (omega (arith, m .hi, n .lo)) in
+        let e : d ≡ c + 1 = omega arith in
+        let y : d * b ≡ (c + 1) * b = ap (λ (z : ℕ). z * b) e in
+        omega (arith, m .even-hi (omega (arith, m .hi, n .lo)), n .even-lo (omega (arith, m .hi, n .lo)))
+
+pub closest-is : (a b c : ℕ) → 0 < b → Near a b c → closest a b ≡ c
+closest-is a b c B n = let m = closest-near a b B in le-antisymm (near-le a b c (closest a b) B n m) (near-le a b (closest a b) c B m n)
 
 -- with w = 2 ^ h and Q = R / w, which is R without its last h digits: (R + 1/2) / 2w is nearest to half of Q, rounded up
 halfway : (R w : ℕ) → 0 < w → closest (2 * R + 1) (4 * w) ≡ (R / w + 1) / 2

@@ -55,7 +55,7 @@ pub record Written (f : Format) (q k : ℕ) : Type 0 where
   pub inside : k * hid f + q < infinite f
 
 module _ (f : Format) (q k : ℕ) (w : Written f q k) where
-  field-lt : k + 1 < ones f
+  pub field-lt : k + 1 < ones f
   field-lt = go k (w .lead) (w .inside)
     where
       go : (k : ℕ) → (0 < k → hid f ≤ q) → k * hid f + q < ones f * hid f → k + 1 < ones f

@@ -3,3 +3,4 @@ pub mod Worked
 pub mod InOrder
 pub mod HalfDigits
 pub mod Cut
+pub mod ModulusNearest

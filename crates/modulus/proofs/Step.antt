@@ -1,8 +1,8 @@
 -- Half the root of two limbs from the root of the high one, in units of 2 ^ s: it is k or k + 1, as the square of the number between them says. Assumes nothing.
 use mathlib.Core.Path.{_≡_, refl, sym, ap, _∙_}
 use mathlib.Core.Logic.{_⊎_, inl, inr}
-use Prim.Native.Nat.{ℕ, suc, _+_, _-_, _*_, _/_, _%_, _^_, _≤_, _<_}
-use native.Mathlib.Nat.{le-of-lt, eq-or-lt-of-le, eq-zero-or-pos, mul-le-mul, mod-eq-of-lt, div-mul-le-self, lt-div-mul-add}
+use Prim.Native.Nat.{ℕ, zero, suc, _+_, _-_, _*_, _/_, _%_, _^_, _≤_, _<_}
+use native.Mathlib.Nat.{le-of-lt, add-zero, zero-lt-suc, mod-lt, eq-or-lt-of-le, eq-zero-or-pos, mul-le-mul, mod-eq-of-lt, div-mul-le-self, lt-div-mul-add}
 use native.Mathlib.Omega.{arith}
 use lib.Pow.{pow-pos, pow-mono}
 use Rattle.model.specs.Root.{root}
@@ -110,3 +110,12 @@ module _ {high low s k0 : ℕ} (asked : (2 ^ 52 ≤ high) × (high < 2 ^ 54) × 
           even-from = λ e z. let o = t (middle ∙ (rw m at e)) z in omega arith;
           even-to = λ e. absurd (omega (arith, past, e));
         }
+
+    -- at a tie the even one
+    pub ties : wide th tl ≡ F → rest ≡ 0 → NearestHalf F rest s (k + k % 2)
+    ties e z = go (k % 2) refl (mod-lt k (zero-lt-suc 1))
+      where
+        go : (m : ℕ) → k % 2 ≡ m → m < 2 → NearestHalf F rest s (k + m)
+        go zero q l = rw add-zero (stays (omega (arith, e)) (λ x. (z, q)))
+        go (suc zero) q l = steps (omega (arith, e)) (λ x y. q)
+        go (suc (suc m)) q l = absurd (omega arith)

@@ -5,29 +5,16 @@ use native.Mathlib.Nat.{mul-le-mul}
 use native.Mathlib.Omega.{arith}
 use lib.Dec.{T, eqb→eq}
 use borrow.Author.Needs.{needs}
-use Rattle.digits.specs.Digits.{NewtonStep}
 use Rattle.digits.proofs.Short.{product, short}
+use Rattle.digits.proofs.Newton.{narrow, left, some}
 use Rattle.digits.proofs.whole.nearest_root.Statement.{statement}
 use Rattle.digits.proofs.whole.nearest_root.Tie as tie
-
--- with what is left of m
-fits-rest : (a b : ℕ) → a < 0xf_0000_0000 → b < 2 ^ 32 → a / 16 * b ≤ 0xf000_0000 * 2 ^ 32
-fits-rest a b h k = let x : a / 16 ≤ 0xf000_0000 = omega arith in let y : b ≤ 2 ^ 32 = omega arith in mul-le-mul x y
-
--- little is left, so s is not 0
-some : (d s : ℕ) → 2 ^ 52 ≤ d → d * 0x400 - s * s < 0xf_0000_0000 → 0 < s
-some d zero h k = absurd (omega arith)
-some d (suc s) h k = omega arith
-
--- both numbers of a step have 32 bits
-narrow : (d r i : ℕ) → NewtonStep d r i → (r < 2 ^ 32) × (i < 2 ^ 32)
-narrow d r i n = (omega (arith, n .of-root), omega (arith, n .of-inverse))
 
 near-root-requires : tie.Need-near-root-requires
 near-root-requires c κs = search needs
 
 mul-if1 : tie.Need-mul-if1
-mul-if1 c = let b = narrow _ _ _ (c .near-root .ensures) in omega (arith, product (c .near-root .result .root) (c .near-root .result .root) (b .0) (b .0))
+mul-if1 c = let b = narrow (c .near-root .ensures) in omega (arith, product (c .near-root .result .root) (c .near-root .result .root) (b .0) (b .0))
 
 mul-if1-2 : tie.Need-mul-if1-2
 mul-if1-2 c = search needs
@@ -42,23 +29,19 @@ sub-rest : tie.Need-sub-rest
 sub-rest c = search needs
 
 mul-k : tie.Need-mul-k
-mul-k c = let b = narrow _ _ _ (c .before .before .near-root .ensures) in omega (arith, b .0)
-
--- k fits
-left : {d s i : ℕ} → NewtonStep d s i → d * 0x400 - s * s < 0xf_0000_0000 → (s < 2 ^ 32) × ((d * 0x400 - s * s) / 16 * i ≤ 0xf000_0000 * 2 ^ 32)
-left {d} {s} {i} n h = let b = narrow d s i n in (b .0, fits-rest (d * 0x400 - s * s) i h (b .1))
+mul-k c = let b = narrow (c .before .before .near-root .ensures) in omega (arith, b .0)
 
 mul-k-2 : tie.Need-mul-k-2
-mul-k-2 c = omega (arith, left (c .before .before .near-root .ensures) (c .if2 .taken))
+mul-k-2 c = omega (arith, left (c .before .before .near-root .ensures) _ (c .if2 .taken))
 
 add-k : tie.Need-add-k
-add-k c = omega (arith, left (c .before .before .near-root .ensures) (c .if2 .taken))
+add-k c = omega (arith, left (c .before .before .near-root .ensures) _ (c .if2 .taken))
 
 add-k-2 : tie.Need-add-k-2
-add-k-2 c = omega (arith, left (c .before .before .near-root .ensures) (c .if2 .taken))
+add-k-2 c = omega (arith, left (c .before .before .near-root .ensures) _ (c .if2 .taken))
 
 is-nearest-requires : tie.Need-is-nearest-requires
-is-nearest-requires c κs = let p = c .before .before .before .pre in (p .1, omega (arith, some _ _ (p .0) (c .if2 .taken)), omega (arith, left (c .before .before .near-root .ensures) (c .if2 .taken)))
+is-nearest-requires c κs = let p = c .before .before .before .pre in (p .1, omega (arith, some _ _ (omega (arith, p .0)) (c .if2 .taken)), omega (arith, left (c .before .before .near-root .ensures) _ (c .if2 .taken)))
 
 returns : tie.Need-returns
 returns c = eqb→eq _ _ (subst T (sym (c .if3 .taken) ∙ c .before .is-nearest .ensures) tt)
