@@ -4,9 +4,10 @@ use Prim.Native.Nat.{ℕ, _+_, _-_, _*_, _/_, _%_, _^_, _≤_, _<_}
 use lib.Ieee.{binary64}
 use Rattle.laws.specs.RootNearest.{patternValue}
 
--- the number of pattern b is t * 2 ^ `power` smallest values
+-- the number of pattern b is t * 2 ^ `power` smallest values, and the pattern itself is made of the two
 pub record Significand (b t power : ℕ) : Type 0 where
   pub is : patternValue binary64 b ≡ t * 2 ^ power
+  pub pattern : power * 2 ^ 52 + t ≡ b
   pub some : 0 < t
   pub short : t < 2 ^ 53
   pub lead : 0 < power → 2 ^ 52 ≤ t

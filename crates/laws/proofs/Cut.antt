@@ -109,6 +109,30 @@ cut-quarter n h F rest cut =
         omega (arith, cut .from, l)
     go (inr a) z = omega (arith, cut .more a, q)
 
+-- ---- the square of q with k zeros after it: the digits are those of q
+pub exact-digits : (f : Format) (q k : ℕ) → (0 < k → hid f ≤ q) → q < 2 ^ prec f → HalfDigits f (4 * square (q * 2 ^ k)) k q
+exact-digits f q k lead short =
+    record {
+      lead = λ z. rw twice (mul-le-mul (mul-le-mul-right (2 ^ k) (let l = lead z in omega (arith, twice-hid f))) (mul-le-mul-right (2 ^ k) (let l = lead z in omega (arith, twice-hid f))));
+      short = rw (twice, square-scale (2 * q) (2 ^ k), square-scale (2 * 2 ^ prec f) (2 ^ k)) (mul-lt-mul-of-pos-right (lt-of-lt-of-le (square-lt (2 * q) (2 * q + 1) refl) (let g : 2 * q + 1 ≤ 2 * 2 ^ prec f = omega arith in mul-le-mul g g)) (mul-pos (pow-pos k) (pow-pos k)));
+      from = rw twice (let g : (2 * q - 1) * 2 ^ k ≤ 2 * q * 2 ^ k = mul-le-mul-right (2 ^ k) (omega arith) in mul-le-mul g g);
+      to = rw twice (let g : 2 * q * 2 ^ k ≤ (2 * q + 1) * 2 ^ k = mul-le-mul-right (2 ^ k) (omega arith) in mul-le-mul g g);
+      even-from = λ e. go (eq-zero-or-pos q) e;
+      even-to = λ e. absurd (past (2 * q) (2 * q + 1) refl (sym twice ∙ e));
+    }
+  where
+    twice : 4 * square (q * 2 ^ k) ≡ square (2 * q * 2 ^ k)
+    twice = omega arith
+
+    past : (a b : ℕ) → a + 1 ≡ b → square (a * 2 ^ k) ≡ square (b * 2 ^ k) → ⊥
+    past a b s e =
+        let l : square a * (2 ^ k * 2 ^ k) < square b * (2 ^ k * 2 ^ k) = mul-lt-mul-of-pos-right (square-lt a b s) (mul-pos (pow-pos k) (pow-pos k)) in
+        omega (arith, l, sym (square-scale a (2 ^ k)) ∙ e ∙ square-scale b (2 ^ k))
+
+    go : (q ≡ 0) ⊎ (0 < q) → square ((2 * q - 1) * 2 ^ k) ≡ 4 * square (q * 2 ^ k) → q % 2 ≡ 0
+    go (inl z) e = rw z
+    go (inr p) e = absurd (past (2 * q - 1) (2 * q) (omega arith) (e ∙ twice))
+
 -- ---- four times the sum of two squares, of x with k + d zeros after it and of y with k
 module _ (x y k d : ℕ) where
   abbrev n : ℕ

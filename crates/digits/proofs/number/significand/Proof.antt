@@ -16,6 +16,7 @@ subnormal b p h =
     let e : 0 * 2 ^ 52 + b ≡ b = omega arith in
     record {
       is = rw e at (pattern-value binary64 b 0 (record { lead = λ z. absurd (omega arith); short = omega arith; inside = omega arith }));
+      pattern = e;
       some = p;
       short = omega arith;
       lead = λ z. absurd (omega arith);
@@ -30,6 +31,7 @@ normal b h n =
     let e : k * 2 ^ 52 + q ≡ b = omega arith in
     record {
       is = subst (λ (x : ℕ). patternValue binary64 x ≡ q * 2 ^ k) e (pattern-value binary64 q k (record { lead = λ z. omega arith; short = omega arith; inside = omega arith }));
+      pattern = e;
       some = omega arith;
       short = omega arith;
       lead = λ z. omega arith;
