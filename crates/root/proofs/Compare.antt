@@ -46,7 +46,7 @@ abs-below (fin true m e) h = refl
 abs-below (fin false m e) h = let k = ltb→lt (m * up e * 1) (0 * 1 * down e) h in absurd (omega arith)
 
 -- a zero that fits is written in one way
-zero-fits : (e : ℤ) → T (eqb (up e * down e) 1) → e ≡ pos 0
+pub zero-fits : (e : ℤ) → T (eqb (up e * down e) 1) → e ≡ pos 0
 zero-fits (pos zero) h = refl
 zero-fits (pos (suc k)) h = let q = eqb→eq (2 ^ suc k * 1) 1 h in absurd (omega (arith, pow-pos k))
 zero-fits (negsuc k) h = let q = eqb→eq (1 * 2 ^ suc k) 1 h in absurd (omega (arith, pow-pos k))
