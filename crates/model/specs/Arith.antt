@@ -110,7 +110,7 @@ isInf (fin s m e) = false
 
 -- infinity if either is infinite; else NaN if either is; else the nearest value
 unfoldable pub hypot : Format → Float → Float → Float
-unfolding isInf modulus
+unfolding isInf
 hypot f p q = cond (isInf p || isInf q) (inf false) (cond (isNan p || isNan q) nan (modulus f p q))
 
 -- ---- lists of numbers
