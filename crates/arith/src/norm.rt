@@ -1,9 +1,9 @@
 // The modulus of a pair and the norm of a list.
 ghost use mathlib.Core.Path.{_≡_};
-ghost use mathlib.Core.Bool.{Bool, true, false, _&&_, cond};
+ghost use mathlib.Core.Bool.{true, false, _&&_, cond};
 ghost use Prim.Native.Nat.{_<_};
 ghost use lib.Dec.{ltb};
-ghost use lib.Ieee.{Float, binary64, sub, eq, ofBits, toBits};
+ghost use lib.Ieee.{binary64, toBits};
 ghost use Rattle.model.specs.Arith as Arith;
 ghost use Rattle.arith.specs.Finite.{isFinite};
 use crate::real::abs;

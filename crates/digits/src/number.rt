@@ -1,6 +1,5 @@
 // The digits of a finite f64 from its pattern.
-ghost use mathlib.Core.Path.{_≡_};
-ghost use Prim.Native.Nat.{_*_, _<_, _≤_, _^_};
+ghost use Prim.Native.Nat.{_*_, _<_, _^_};
 ghost use Rattle.digits.specs.Digits.{Significand, Shift};
 
 // The weight of the exponent's field.

@@ -1,5 +1,5 @@
 -- The sum of two squares in two limbs, brought to 108 digits. Assumes nothing.
-use mathlib.Core.Path.{_≡_, sym, ap, _∙_, subst}
+use mathlib.Core.Path.{_≡_}
 use Prim.Native.Nat.{ℕ, zero, suc, _+_, _-_, _*_, _/_, _%_, _^_, _≤_, _<_}
 use native.Mathlib.Nat.{add-zero, mul-le-mul, mul-pos, mod-lt, div-le-self}
 use native.Mathlib.Numerals.{add-one}

@@ -1,7 +1,7 @@
 -- Two limbs divided by a power of 2. Assumes nothing.
 use mathlib.Core.Path.{_≡_, sym, ap, _∙_}
-use Prim.Native.Nat.{ℕ, suc, _+_, _-_, _*_, _/_, _%_, _^_, _≤_, _<_}
-use native.Mathlib.Nat.{div-add-mod', mod-lt, div-eq-of-lt-le, mul-le-mul-right, le-of-suc-le-suc}
+use Prim.Native.Nat.{ℕ, _+_, _-_, _*_, _/_, _%_, _^_, _≤_, _<_}
+use native.Mathlib.Nat.{div-add-mod', mod-lt, div-eq-of-lt-le, mul-le-mul-right}
 use native.Mathlib.Omega.{arith}
 use lib.Pow.{pow-add}
 use Rattle.modulus.specs.Modulus.{wide}

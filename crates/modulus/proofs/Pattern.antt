@@ -2,12 +2,11 @@
 use mathlib.Core.Path.{_≡_, refl, sym, ap, _∙_, subst}
 use mathlib.Core.Logic.{_⊎_, inl, inr}
 use mathlib.Core.Bool.{not, false}
-use Prim.Native.Nat.{ℕ, suc, _+_, _-_, _*_, _%_, _^_, _≤_, _<_}
+use Prim.Native.Nat.{ℕ, _+_, _-_, _*_, _^_, _≤_, _<_}
 use native.Mathlib.Nat.{eq-zero-or-pos}
 use native.Mathlib.Omega.{arith}
 use lib.Dec.{T}
-use lib.Ieee.{Float, inf, binary64, ofBits, nanBits}
-use Rattle.model.specs.Root.{amount}
+use lib.Ieee.{inf, binary64, ofBits, nanBits}
 use Rattle.model.specs.Arith.{modulus, fourSquares, halfRoot}
 use Rattle.laws.specs.RootNearest.{square, patternValue}
 use Rattle.laws.specs.HalfDigits.{HalfDigits}

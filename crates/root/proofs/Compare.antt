@@ -4,7 +4,7 @@ use Prim.Native.Nat.{ℕ, zero, suc, _+_, _*_, _^_, _<_}
 use native.Mathlib.Nat.{zero-lt-suc, mul-pos}
 use native.Mathlib.Omega.{arith}
 use mathlib.Core.Bool.{Bool, true, false, true≢false}
-use lib.Dec.{T, eqb, ltb, ltb→lt, lt→ltb, eqb→eq, eqb-refl}
+use lib.Dec.{T, eqb, ltb→lt, lt→ltb, eqb→eq, eqb-refl}
 use lib.IntN.{ℤ, pos, negsuc}
 use lib.Pow.{pow-pos}
 use lib.Ieee.{Float, nan, inf, fin, Format, up, down, fits, lt, eq, ne, neg, isNan}

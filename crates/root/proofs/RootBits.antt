@@ -1,7 +1,7 @@
 -- The pattern of a root, from the digits of the number and of the root. Assumes nothing.
 use mathlib.Core.Path.{_≡_, _∙_}
 use mathlib.Core.Bool.{not}
-use Prim.Native.Nat.{ℕ, suc, _+_, _-_, _*_, _/_, _%_, _^_, _<_}
+use Prim.Native.Nat.{ℕ, suc, _+_, _-_, _*_, _/_, _^_, _<_}
 use native.Mathlib.Omega.{arith}
 use lib.Pow.{pow-add}
 use lib.Dec.{T}

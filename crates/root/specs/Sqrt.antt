@@ -1,6 +1,6 @@
 -- What the inner functions of `sqrt` hand to one another. Assumes nothing.
 use mathlib.Core.Path.{_≡_}
-use Prim.Native.Nat.{ℕ, _+_, _-_, _*_, _/_, _%_, _^_, _≤_, _<_}
+use Prim.Native.Nat.{ℕ, _*_, _/_, _^_, _≤_, _<_}
 use lib.Ieee.{binary64}
 use Rattle.laws.specs.RootNearest.{inSquares}
 

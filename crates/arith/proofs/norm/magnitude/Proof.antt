@@ -1,7 +1,7 @@
 -- `arith::norm::magnitude` meets its contract. Assumes nothing.
 use mathlib.Core.Path.{sym, subst}
 use lib.Dec.{T}
-use lib.Ieee.{binary64, fits}
+use lib.Ieee.{binary64}
 use Rattle.arith.proofs.Hypot.{finite-no-nan, unsigned}
 use Rattle.arith.proofs.norm.magnitude.Statement.{statement}
 use Rattle.arith.proofs.norm.magnitude.Tie as tie

@@ -1,7 +1,6 @@
 -- `digits::whole::nearest_root` meets its contract: by the test, or by the whole root. Of the digits that are tested it uses only that they fit. Assumes nothing.
 use mathlib.Core.Path.{sym, _∙_, subst}
-use Prim.Native.Nat.{ℕ, zero, suc, _-_, _*_, _/_, _%_, _^_, _≤_, _<_}
-use native.Mathlib.Nat.{mul-le-mul}
+use Prim.Native.Nat.{_-_}
 use native.Mathlib.Omega.{arith}
 use lib.Dec.{T, eqb→eq}
 use borrow.Author.Needs.{needs}

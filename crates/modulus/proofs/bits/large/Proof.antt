@@ -1,6 +1,6 @@
 -- `modulus::bits::large` meets its contract: the sum is cut, brought to 108 digits, and half its root is found. Assumes nothing.
-use mathlib.Core.Path.{_≡_, sym, ap, _∙_}
-use Prim.Native.Nat.{ℕ, _+_, _*_, _/_, _%_, _^_, _≤_, _<_}
+use mathlib.Core.Path.{_≡_}
+use Prim.Native.Nat.{ℕ, _+_, _*_}
 use native.Mathlib.Omega.{arith}
 use lib.Ieee.{binary64}
 use borrow.Author.Needs.{needs}

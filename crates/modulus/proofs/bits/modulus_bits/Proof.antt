@@ -1,6 +1,6 @@
 -- `modulus::bits::modulus_bits` meets its contract, case by case. Assumes nothing.
-use mathlib.Core.Path.{_≡_, sym, subst}
-use Prim.Native.Nat.{ℕ, _+_, _-_, _*_, _^_, _≤_, _<_}
+use mathlib.Core.Path.{sym, subst}
+use Prim.Native.Nat.{ℕ, _-_}
 use native.Mathlib.Omega.{arith}
 use borrow.Author.Needs.{needs}
 use Rattle.modulus.proofs.Pattern.{IsModulus, with-zero, no-more, larger, small-order, subnormal, few, normal, overflows}

@@ -1,5 +1,5 @@
 -- `modulus::bits::small` meets its contract: moved up by s places, the squares are 4 ^ s times as large, and nothing is cut off. Assumes nothing.
-use mathlib.Core.Path.{_≡_, sym, ap, _∙_, subst}
+use mathlib.Core.Path.{_≡_, _∙_, subst}
 use Prim.Native.Nat.{ℕ, zero, suc, _+_, _-_, _*_, _/_, _%_, _^_, _≤_, _<_}
 use native.Mathlib.Nat.{mod-eq-of-lt, mul-le-mul, mul-le-mul-right, pow-succ'}
 use native.Mathlib.Omega.{arith}

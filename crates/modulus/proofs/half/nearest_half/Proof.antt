@@ -1,6 +1,6 @@
 -- `modulus::half::nearest_half` meets its contract: by the test, or by steps from the root of the high limb. Of the digits that are tested it uses only that they fit. Assumes nothing.
-use mathlib.Core.Path.{_≡_, sym, _∙_, subst}
-use Prim.Native.Nat.{ℕ, _+_, _-_, _*_, _/_, _%_, _^_, _≤_, _<_}
+use mathlib.Core.Path.{sym, _∙_, subst}
+use Prim.Native.Nat.{ℕ, _+_, _-_, _*_}
 use native.Mathlib.Nat.{mul-one, le-of-lt}
 use native.Mathlib.Omega.{arith}
 use mathlib.Core.Bool.{_&&_}

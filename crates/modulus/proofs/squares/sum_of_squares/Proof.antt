@@ -1,11 +1,11 @@
 -- `modulus::squares::sum_of_squares` meets its contract: of the limbs of y * y, divided by 2 ^ s, what the high one leaves goes to the low one. Assumes nothing.
-use mathlib.Core.Path.{_≡_, sym, ap, _∙_}
+use mathlib.Core.Path.{_≡_, sym}
 use Prim.Native.Nat.{ℕ, _+_, _-_, _*_, _/_, _%_, _^_, _≤_, _<_}
 use native.Mathlib.Nat.{mod-eq-of-lt, mul-le-mul, div-le-self}
 use native.Mathlib.Omega.{arith}
 use lib.Pow.{pow-pos}
 use borrow.Author.Needs.{needs}
-use Rattle.modulus.specs.Modulus.{wide, Square, Sum}
+use Rattle.modulus.specs.Modulus.{Square, Sum}
 use Rattle.modulus.proofs.Parts.{quotient, remainder, under, twice, to-54}
 use Rattle.modulus.proofs.squares.sum_of_squares.Statement.{statement}
 use Rattle.modulus.proofs.squares.sum_of_squares.Tie as tie
