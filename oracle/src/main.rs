@@ -6,6 +6,7 @@ mod bindings;
 mod calls;
 mod compare;
 mod generate;
+mod modulus;
 mod note;
 mod picked;
 mod picked_forms;
