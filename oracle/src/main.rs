@@ -10,6 +10,7 @@ mod modulus;
 mod note;
 mod picked;
 mod picked_forms;
+mod picked_moduli;
 mod picked_strides;
 mod progress;
 mod record;
