@@ -55,7 +55,7 @@ struct Sum {
 impl Sum {
     /// The smaller number's unit is 2^gap times smaller. A gap is at most 26, and `& 63` says so.
     fn new(larger: u64, smaller: u64, gap: u64) -> Sum {
-        let whole = square(2 * larger) + (square(2 * smaller) >> (2 * gap & 63));
+        let whole = square(2 * larger) + (square(2 * smaller) >> ((2 * gap) & 63));
         Sum { whole, more: u64::from(smaller.trailing_zeros()) + 1 < gap, wide: (whole >> 108) as u64 }
     }
 
