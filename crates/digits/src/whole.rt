@@ -27,7 +27,7 @@ fn small_root(d: u64) -> u64
 
 // The whole part of the root of d * 2^54: 27 digits are those of the root of d, and 27 more come
 // from one division, one too high at most (Zimmermann).
-fn whole_root(d: u64) -> u64
+pub fn whole_root(d: u64) -> u64
     requires { ⌜ (2 ^ 52 ≤ d) × (d < 2 ^ 54) ⌝ }
     ensures { λ r. ⌜ r ≡ Root.root (d * 2 ^ 54) ⌝ }
 {

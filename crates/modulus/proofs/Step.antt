@@ -12,10 +12,10 @@ use Rattle.laws.proofs.WholeRoot.{root-is, le-root}
 use Rattle.digits.proofs.Short.{short}
 use Rattle.modulus.specs.Modulus.{wide, Square}
 
--- k0 is half the root of the high limb, rounded, and k is k0 without its last s digits
-module _ {high low s k0 : ℕ} (asked : (2 ^ 52 ≤ high) × (high < 2 ^ 54) × (low < 2 ^ 54) × (s < 53)) (is : k0 ≡ (root (high * 2 ^ 54) + 1) / 2) where
-  abbrev R : ℕ
-  R = root (high * 2 ^ 54)
+-- R is the root of the high limb with 54 zeros after it, k0 half of it, rounded, and k is k0 without its last s digits
+module _ {high low s R : ℕ} (asked : (2 ^ 52 ≤ high) × (high < 2 ^ 54) × (low < 2 ^ 54) × (s < 53)) (is : R ≡ root (high * 2 ^ 54)) where
+  abbrev k0 : ℕ
+  k0 = (R + 1) / 2
 
   abbrev w : ℕ
   w = 2 ^ s
@@ -27,13 +27,13 @@ module _ {high low s k0 : ℕ} (asked : (2 ^ 52 ≤ high) × (high < 2 ^ 54) × 
   F = wide high low
 
   r-low : R * R ≤ high * 2 ^ 54
-  r-low = root-is (high * 2 ^ 54) .0
+  r-low = rw is (root-is (high * 2 ^ 54) .0)
 
   r-high : high * 2 ^ 54 < (R + 1) * (R + 1)
-  r-high = root-is (high * 2 ^ 54) .1
+  r-high = rw is (root-is (high * 2 ^ 54) .1)
 
   long : 2 ^ 53 ≤ R
-  long = le-root (high * 2 ^ 54) R (root-is (high * 2 ^ 54)) (2 ^ 53) (omega (arith, asked .0))
+  long = rw is (le-root (high * 2 ^ 54) (root (high * 2 ^ 54)) (root-is (high * 2 ^ 54)) (2 ^ 53) (omega (arith, asked .0)))
 
   w-most : w ≤ 2 ^ 52
   w-most = let h : s ≤ 52 = omega (arith, asked .3) in pow-mono h
@@ -48,7 +48,7 @@ module _ {high low s k0 : ℕ} (asked : (2 ^ 52 ≤ high) × (high < 2 ^ 54) × 
   some = go (eq-zero-or-pos k)
     where
       go : (k ≡ 0) ⊎ (0 < k) → 0 < k
-      go (inl e) = let z : k * w ≡ 0 * w = ap (λ (x : ℕ). x * w) e in absurd (omega (arith, above, z, w-most, long, is))
+      go (inl e) = let z : k * w ≡ 0 * w = ap (λ (x : ℕ). x * w) e in absurd (omega (arith, above, z, w-most, long))
       go (inr p) = p
 
   -- the numbers beside twice k and k + 1, times w
@@ -59,10 +59,10 @@ module _ {high low s k0 : ℕ} (asked : (2 ^ 52 ≤ high) × (high < 2 ^ 54) × 
   one-less = let m : 2 * k - 1 + 1 ≡ 2 * k = omega (arith, some) in let z = ap (λ (x : ℕ). x * w) m in omega (arith, z)
 
   under-most : under ≤ R
-  under-most = omega (arith, one-less, below, pow-pos s, is)
+  under-most = omega (arith, one-less, below, pow-pos s)
 
   most : (k * 2 + 1) * w < 2 ^ 55
-  most = omega (arith, below, w-most, is, short high R (asked .1) refl)
+  most = omega (arith, below, w-most, short high R (asked .1) is)
 
   -- so it stays what it is when it is moved up
   plain : (k * 2 + 1) * w % 2 ^ 64 ≡ (k * 2 + 1) * w
@@ -81,7 +81,7 @@ module _ {high low s k0 : ℕ} (asked : (2 ^ 52 ≤ high) × (high < 2 ^ 54) × 
       go : (under ≡ R) ⊎ (under < R) → ⊥
       go (inl q) =
           let t = k * w in
-          let o : R + 1 ≡ 2 * t = omega (arith, one-less, below, pow-pos s, q, is) in
+          let o : R + 1 ≡ 2 * t = omega (arith, one-less, below, pow-pos s, q) in
           let z : (R + 1) * (R + 1) ≡ 2 * t * (2 * t) = ap (λ (x : ℕ). x * x) o in
           let y : under * under ≡ R * R = ap (λ (x : ℕ). x * x) q in
           omega (arith, z, y, e, r-low)
@@ -89,7 +89,7 @@ module _ {high low s k0 : ℕ} (asked : (2 ^ 52 ≤ high) × (high < 2 ^ 54) × 
 
   past : F < square ((2 * (k + 1) + 1) * w)
   past =
-      let g : R + 3 ≤ (2 * (k + 1) + 1) * w = omega (arith, above, pow-pos s, is) in
+      let g : R + 3 ≤ (2 * (k + 1) + 1) * w = omega (arith, above, pow-pos s) in
       let z = mul-le-mul g g in
       omega (arith, z, r-high, long, asked .2)
 

@@ -7,7 +7,7 @@ ghost use Rattle.laws.specs.Cut.{NearestHalf};
 ghost use Rattle.modulus.specs.Modulus.{wide};
 use crate::squares::square;
 use digits::whole::near_root;
-use digits::whole::nearest_root;
+use digits::whole::whole_root;
 
 // From the root of the high limb: the low one lifts half the root by less than a half, so that it is k or
 // k + 1 of its units, 2^s; which, the square of the number between them says.
@@ -15,7 +15,7 @@ pub fn stepped(high: u64, low: u64, rest: u64, s: u32) -> u64
     requires { ⌜ (2 ^ 52 ≤ high) × (high < 2 ^ 54) × (low < 2 ^ 54) × (s < 53) ⌝ }
     ensures { λ r. ⌜ NearestHalf (wide high low) rest s r ⌝ }
 {
-    let k = nearest_root(high) >> s;
+    let k = (whole_root(high) + 1) / 2 >> s;
     let t = square((k * 2 + 1) << s);
     let t_high = t.high;
     let t_low = t.low;
