@@ -19,7 +19,7 @@ pub fn later(call: &'static str) -> Vec<Record> {
 }
 
 fn pairs() -> Vec<[f64; 2]> {
-    [ties(), gaps(), subnormals(), powers_of_two(), edge(), once_off()].concat()
+    [ties(), gaps(), subnormals(), powers_of_two(), edge(), once_off(), just_past()].concat()
 }
 
 /// Pairs whose exact root is the middle of two f64s, six with the even one below and six with it above,
@@ -93,6 +93,18 @@ fn edge() -> Vec<[f64; 2]> {
 fn once_off() -> Vec<[f64; 2]> {
     let pairs = [[2, 3], [1, 5], [3, 3], [1, 6], [2, 5], [3, 5], [2, 7], [4, 6], [2, 9], [5, 6], [1, 12], [2, 11]];
     pairs.iter().map(|pair| pair.map(f64::from)).collect()
+}
+
+/// Pairs with p² + q² = (2t)² + 1, t odd with 54 digits and 1 more than a multiple of 4: beyond a middle
+/// by one part in 2^110, the even one below.
+fn just_past() -> Vec<[f64; 2]> {
+    let pairs: [[u64; 2]; 4] = [
+        [17_441_693_042_450_626, 5_055_596_807_887_905],
+        [16_924_522_590_596_926, 7_124_434_336_908_993],
+        [17_232_646_637_313_974, 5_853_686_025_377_521],
+        [17_169_626_514_130_994, 5_912_609_604_388_673],
+    ];
+    pairs.iter().map(|pair| pair.map(|x| x as f64)).collect()
 }
 
 /// Three numbers of which the nearest of the three would be another, in all orders; a tie that a third
