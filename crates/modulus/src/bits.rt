@@ -21,7 +21,7 @@ const HIDDEN: u64 = 0x10_0000_0000_0000;
 // The pattern of plus infinity.
 const INFINITE: u64 = 0x7ff0_0000_0000_0000;
 
-// The digits of the modulus of x * 2^d and y, x with all 53: so many, with `power` more zeros than x.
+// The digits of the modulus of x * 2^d and y, x with all 53 digits: d + power zeros follow them.
 fn large(x: u64, y: u64, d: u64) -> Scaled
     requires { ⌜ (2 ^ 52 ≤ x) × (x < 2 ^ 53) × (y < 2 ^ 53) × (d < 27) ⌝ }
     ensures { λ r. ⌜ ((k : ℕ) → HalfDigits binary64 (fourSums x y k d) (k + d + r .power) (r .digits)) × (r .power ≤ 1) ⌝ }

@@ -9,8 +9,8 @@ use crate::squares::square;
 use digits::whole::near_root;
 use digits::whole::whole_root;
 
-// From the root of the high limb: the low one lifts half the root by less than a half, so that it is k or
-// k + 1 of its units, 2^s; which, the square of the number between them says.
+// Half the root, rounded to units of 2^s, from the root of the high limb: the low one lifts it by less than
+// a half, so that it is k units or k + 1; which, the square of the number between them says.
 pub fn stepped(high: u64, low: u64, rest: u64, s: u32) -> u64
     requires { ⌜ (2 ^ 52 ≤ high) × (high < 2 ^ 54) × (low < 2 ^ 54) × (s < 53) ⌝ }
     ensures { λ r. ⌜ NearestHalf (wide high low) rest s r ⌝ }
@@ -56,9 +56,9 @@ fn between(high: u64, low: u64, k: u64) -> bool
     u - t_low < k * 8
 }
 
-// How the digits are found is free, since they are tested: where the test fails, about once in 250, and at
-// a tie, they are worked out. The digits after a step of Newton's are those of what is left over twice the
-// root.
+// Half the root, rounded. How its digits are found is free, since they are tested: where the test fails,
+// about once in 250, and at a tie, they are worked out. The digits after a step of Newton's are those of
+// what is left over twice the root.
 pub fn nearest_half(high: u64, low: u64, rest: u64) -> u64
     requires { ⌜ (2 ^ 52 ≤ high) × (high < 2 ^ 54) × (low < 2 ^ 54) ⌝ }
     ensures { λ r. ⌜ NearestHalf (wide high low) rest 0 r ⌝ }
