@@ -35,17 +35,20 @@ fn in_turn(numbers: &[(f64, f64)], f: impl Fn(f64, f64) -> f64) -> Duration {
     start.elapsed()
 }
 
-/// Pairs of numbers of many sizes, and pairs alike in size, as in a rotation.
-fn pairs() -> [Vec<(f64, f64)>; 2] {
+/// Pairs of numbers of many sizes, pairs alike in size, as in a rotation, and pairs of subnormals.
+fn pairs() -> [Vec<(f64, f64)>; 3] {
     let rng = &mut Rng::new(SEED, "numbers", 0);
     let mut wide = || between(rng, 1.0, 2.0) * 2f64.powi(rng.between(-40, 40) as i32);
     let numbers = (0..COUNT).map(|_| (wide(), wide())).collect();
     let rng = &mut Rng::new(SEED, "pairs", 0);
-    [numbers, (0..COUNT).map(|_| (between(rng, -2.0, 2.0), between(rng, -2.0, 2.0))).collect()]
+    let alike = (0..COUNT).map(|_| (between(rng, -2.0, 2.0), between(rng, -2.0, 2.0))).collect();
+    let rng = &mut Rng::new(SEED, "subnormals", 0);
+    let mut subnormal = || f64::from_bits(rng.bits() >> 12);
+    [numbers, alike, (0..COUNT).map(|_| (subnormal(), subnormal())).collect()]
 }
 
 pub fn arithmetic(plan: &Plan, report: &mut Report) -> Table {
-    let [numbers, alike] = pairs();
+    let [numbers, alike, subnormal] = pairs();
     let mut out = vec![0.0; COUNT];
 
     let mut table = Table::new(plan.markdown, &["", "beside", "ours, ns", "theirs, ns", "ours/theirs", "to reach"]);
@@ -79,7 +82,7 @@ pub fn arithmetic(plan: &Plan, report: &mut Report) -> Table {
         0 => in_turn(&numbers, ours(place)),
         _ => in_turn(&numbers, |x, _| hardware_sqrt(x)),
     });
-    for (numbers, sort) in [(&numbers, "any sizes"), (&alike, "like sizes")] {
+    for (numbers, sort) in [(&numbers, "any sizes"), (&alike, "like sizes"), (&subnormal, "subnormal")] {
         let name = format!("hypot, each by itself, {sort}");
         row(&name, "the Rust helper", None, &mut |k, place| match k {
             0 => each(numbers, &mut out, modulus(place)),
@@ -90,16 +93,19 @@ pub fn arithmetic(plan: &Plan, report: &mut Report) -> Table {
             _ => each(numbers, &mut out, f64::hypot),
         });
     }
-    row("hypot, each after the last, like sizes", "the Rust helper", None, &mut |k, place| match k {
-        0 => in_turn(&alike, modulus(place)),
-        _ => in_turn(&alike, |p, q| rust_hypot(p, q)),
-    });
+    for (numbers, sort) in [(&numbers, "any sizes"), (&alike, "like sizes")] {
+        let name = format!("hypot, each after the last, {sort}");
+        row(&name, "the Rust helper", None, &mut |k, place| match k {
+            0 => in_turn(numbers, modulus(place)),
+            _ => in_turn(numbers, |p, q| rust_hypot(p, q)),
+        });
+    }
     table
 }
 
 /// The root and the modulus of several archives: the rows that are wanted and their times.
 pub fn archives_times(plan: &Plan, archives: &[&'static [Archive; PLACES]]) -> Vec<(String, Times)> {
-    let [numbers, alike] = pairs();
+    let [numbers, alike, subnormal] = pairs();
     let (mut out, mut rows) = (vec![0.0; COUNT], Vec::new());
     let mut row = |name: &str, run: &mut dyn FnMut(&'static Archive) -> Duration| {
         if plan.wants(name, None) {
@@ -111,6 +117,8 @@ pub fn archives_times(plan: &Plan, archives: &[&'static [Archive; PLACES]]) -> V
     row("sqrt, each after the last", &mut |archive| in_turn(&numbers, |x, _| archive.sqrt(x)));
     row("hypot, each by itself, any sizes", &mut |archive| each(&numbers, &mut out, |p, q| archive.hypot(p, q)));
     row("hypot, each by itself, like sizes", &mut |archive| each(&alike, &mut out, |p, q| archive.hypot(p, q)));
+    row("hypot, each by itself, subnormal", &mut |archive| each(&subnormal, &mut out, |p, q| archive.hypot(p, q)));
+    row("hypot, each after the last, any sizes", &mut |archive| in_turn(&numbers, |p, q| archive.hypot(p, q)));
     row("hypot, each after the last, like sizes", &mut |archive| in_turn(&alike, |p, q| archive.hypot(p, q)));
     rows
 }

@@ -11,6 +11,8 @@ mod beside;
 mod exact;
 mod forms;
 mod lapack;
+#[path = "../../oracle/src/modulus.rs"]
+mod modulus;
 mod note;
 mod opaque;
 #[allow(dead_code)]

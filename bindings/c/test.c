@@ -73,6 +73,8 @@ static void arithmetic(void)
     SAME(vx_sqrt(-1), NAN);
     SAME(vx_sqrt(INFINITY), INFINITY);
     SAME(vx_hypot(3, 4), 5.0);
+    SAME(vx_hypot(2, 3), 3.605551275463989);
+    SAME(vx_hypot(-0.0, -0.0), 0.0);
     SAME(vx_hypot(NAN, -INFINITY), INFINITY);
     SAME(vx_norm_l2(list, 3), vx_hypot(vx_hypot(2, 3), 6));
     SAME(vx_norm_l2(list, 1), 2.0);

@@ -192,8 +192,9 @@ double vx_fmin(double p, double q);
  * themselves; all else gives the nearest double. */
 double vx_sqrt(double x);
 
-/* Infinity if either is infinite; else NaN if either is; else, with the larger magnitude g and the
- * smaller h, +0 if g is zero, otherwise g * sqrt(1 + (h / g) * (h / g)). */
+/* Infinity if either is infinite; else NaN if either is; else the double nearest to the exact root of
+ * p * p + q * q, ties to even: +0 of two zeros, infinity where the root is at least
+ * (2^54 - 1) * 2^970. */
 double vx_hypot(double p, double q);
 
 /* The magnitude of the first number, then vx_hypot with each next; of no number, +0. */

@@ -340,7 +340,7 @@ class ShowCommand(Desk):
         out = self.good(
             "show", str(EXAMPLES / "slow-mode.sheet"), "--digits", "17", "--factor", "--through-factor"
         )
-        self.assertIn("-0.062499999999999958", out)
+        self.assertIn("-0.062500000000000042", out)
         self.assertIn("\nFactor:\n", out)
         self.assertIn("the factor times that of the form", out)
         for word in ("0", "18", "x"):

@@ -632,8 +632,9 @@ def sqrt(x):
 
 
 def hypot(p, q):
-    """Infinity if either is infinite; else NaN if either is; else g * sqrt(1 + (h / g) * (h / g))
-    with the larger magnitude g and the smaller h, or +0 if g is zero."""
+    """Infinity if either is infinite; else NaN if either is; else the float nearest to the exact
+    root of p * p + q * q, ties to even: +0 of two zeros, infinity where the root is at least
+    (2^54 - 1) * 2^970."""
     return _CALLS["hypot"](p, q)
 
 

@@ -4,6 +4,7 @@
 //   differences                      the whole list
 //   differences exchanges COUNT SEED random moves: how often both sides make as many exchanges
 //   differences declines COUNT SEED  random exchanges of a 2-block and a row: how often LAPACK declines
+//   differences moduli COUNT SEED    random pairs: how often 01's formula and C's hypot are not the nearest
 #define _GNU_SOURCE
 #include "ours.h"
 #include <dlfcn.h>
@@ -72,17 +73,84 @@ static void rows(const char *who, int n, const double *t) { rows_at(who, n, n, t
 // One number of each side.
 static void one(const char *who, double x) { printf("  %-8s %s\n", who, number(x)); }
 
+// ---- draws
+
+static uint64_t state;
+
+static uint64_t next(void) { // xorshift64*
+    state ^= state >> 12;
+    state ^= state << 25;
+    state ^= state >> 27;
+    return state * 2685821657736338717u;
+}
+
+static void seed(uint64_t x) { state = x * 0x9e3779b97f4a7c15u + 1; }
+
+// ---- moduli
+
+// Document 01's modulus of finite numbers, as it was before the nearest.
+static double formula_of_01(double p, double q) {
+    p = fabs(p), q = fabs(q);
+    double g = p > q ? p : q, h = p > q ? q : p;
+    return g == 0 ? 0 : g * sqrt(1 + (h / g) * (h / g));
+}
+
+// C's own, called.
+static double modulus_of_c(double p, double q) {
+    volatile double x = p, y = q;
+    return hypot(x, y);
+}
+
+// The least whole numbers, p at most q, of which another modulus is not ours.
+static void least_pair(const char *who, double (*theirs)(double, double)) {
+    for (int sum = 2;; sum++)
+        for (int p = 1; p <= sum - p; p++) {
+            double us = vx_hypot(p, sum - p), them = theirs(p, sum - p);
+            if (us != them) {
+                printf("hypot %d %d\n", p, sum - p);
+                one("ours", us);
+                one(who, them);
+                return;
+            }
+        }
+}
+
+// 53 digits, and an exponent from one to the other.
+static double between(int from, int to) {
+    double digits = 1 + (double)(next() >> 12) * 0x1p-52;
+    return ldexp(digits, from + (int)(next() % (to - from + 1)));
+}
+
+static double subnormal(void) { return (double)(next() >> 12) * 0x1p-1074; }
+
+static void moduli(long count) {
+    static const char *sorts[] = {"exponents 0 to 3", "exponents -40 to 40", "both subnormal"};
+    printf("%ld random pairs of each sort, and how many moduli are not the nearest\n", count);
+    for (int sort = 0; sort < 3; sort++) {
+        long formula = 0, c = 0;
+        for (long k = 0; k < count; k++) {
+            double p = sort == 2 ? subnormal() : sort ? between(-40, 40) : between(0, 3);
+            double q = sort == 2 ? subnormal() : sort ? between(-40, 40) : between(0, 3);
+            double us = vx_hypot(p, q);
+            formula += formula_of_01(p, q) != us;
+            c += modulus_of_c(p, q) != us;
+        }
+        printf("  %-20s  01's formula %ld  C %ld\n", sorts[sort], formula, c);
+    }
+}
+
 // ---- the stock build of faer: C in its place
 
 static void stock(void) {
-    volatile double two = 2, three = 3, zero = 0, minus_zero = -0.0; // so that C's own are called
-    printf("hypot 2 3\n");
-    one("ours", vx_hypot(2, 3));
-    one("C", hypot(two, three));
+    volatile double zero = 0, minus_zero = -0.0; // so that C's own are called
+    least_pair("01's", formula_of_01);
+    least_pair("C", modulus_of_c);
+    seed(1);
+    moduli(10000000);
 
-    printf("norm_l2 1 1 3\n");
-    one("ours", vx_norm_l2((double[]){1, 1, 3}, 3));
-    one("C", sqrt(fma(three, three, 2)));
+    printf("norm_l2 1 1 1\n");
+    one("ours", vx_norm_l2((double[]){1, 1, 1}, 3));
+    one("C", sqrt(fma(1, 1, 2)));
 
     printf("fmax 0 -0, fmin -0 0\n");
     named("ours", "fmax fmin", (double[]){vx_fmax(0, -0.0), vx_fmin(-0.0, 0)});
@@ -126,15 +194,18 @@ static void rotation(double p, double q) {
     named("dlartg", "c s r", (double[]){c, s, r});
 }
 
-static void reflection(double head, int len, double a, double b) {
-    double tail[2] = {a, b}, theirs[2] = {a, b}, out[4], beta = head, tau;
+static void reflection(double head, int len, double a, double b, double c) {
+    double tail[3] = {a, b, c}, theirs[3] = {a, b, c}, out[4], beta = head, tau;
     int n = len + 1, step = 1;
     ours_reflection(head, tail, len, out);
     dlarfg_(&n, &beta, theirs, &step, &tau);
-    printf("reflection of head %s, tail %s%s%s\n", number(head), number(a), len > 1 ? " " : "", len > 1 ? number(b) : "");
-    const char *names = len > 1 ? "head tau v0 v1" : "head tau v0";
-    named("ours", names, (double[]){out[0], out[1], tail[0], tail[1]});
-    named("dlarfg", names, (double[]){beta, tau, theirs[0], theirs[1]});
+    printf("reflection of head %s, tail", number(head));
+    for (int i = 0; i < len; i++)
+        printf(" %s", number((double[]){a, b, c}[i]));
+    printf("\n");
+    const char *names = len > 1 ? "head tau v0 v1 v2" : "head tau v0";
+    named("ours", names, (double[]){out[0], out[1], tail[0], tail[1], tail[2]});
+    named("dlarfg", names, (double[]){beta, tau, theirs[0], theirs[1], theirs[2]});
 }
 
 // ---- blocks of two rows
@@ -229,15 +300,6 @@ static void strides(int n, int ld, int len, int ldu, int from, int to) {
 }
 
 // ---- random forms
-
-static uint64_t state;
-
-static uint64_t next(void) { // xorshift64*
-    state ^= state >> 12;
-    state ^= state << 25;
-    state ^= state >> 27;
-    return state * 2685821657736338717u;
-}
 
 static double whole(void) { return (double)(next() % 5) - 2; }
 
@@ -345,8 +407,9 @@ static void vectors(int n, const double *by_rows) {
 
 int main(int argc, char **argv) {
     if (argc == 4) {
-        state = strtoull(argv[3], 0, 10) * 0x9e3779b97f4a7c15u + 1;
-        (strcmp(argv[1], "declines") ? exchanges : declines)(strtol(argv[2], 0, 10));
+        seed(strtoull(argv[3], 0, 10));
+        void (*run)(long) = !strcmp(argv[1], "moduli") ? moduli : !strcmp(argv[1], "declines") ? declines : exchanges;
+        run(strtol(argv[2], 0, 10));
         return 0;
     }
     if (argc != 1) {
@@ -361,15 +424,16 @@ int main(int argc, char **argv) {
     rotation(0x1p-1074, 0x1p-1074);
     rotation(1.7e308, 1.7e308);
 
-    reflection(3, 1, 4, 0);
-    reflection(1, 1, 0, 0);
-    reflection(49, 1, 1, 0);
-    reflection(0, 2, 2, 3);
-    reflection(-0.0, 1, 1, 0);
-    reflection(1, 1, 0x1p-1023, 0);
-    reflection(0x1p-1023, 1, 0x1p-1022, 0);
-    reflection(1.7e308, 1, 1.7e308, 0);
-    reflection(INFINITY, 1, 1, 0);
+    reflection(3, 1, 4, 0, 0);
+    reflection(1, 1, 0, 0, 0);
+    reflection(49, 1, 1, 0, 0);
+    reflection(2, 1, 3, 0, 0);
+    reflection(0, 3, 1, 1, 1);
+    reflection(-0.0, 1, 1, 0, 0);
+    reflection(1, 1, 0x1p-1023, 0, 0);
+    reflection(0x1p-1023, 1, 0x1p-1022, 0, 0);
+    reflection(1.7e308, 1, 1.7e308, 0, 0);
+    reflection(INFINITY, 1, 1, 0, 0);
 
     block(-2, -1, 1, 0);
     block(1, 1, 1, 0);
@@ -390,7 +454,7 @@ int main(int argc, char **argv) {
     move(3, FORM(0, 0, 0, 0, 2, -1, 0, 1, 0), 1, 0);
     move(4, FORM(0, 0, 0, 0, 0, 0, 0, 0, 0, 0, 2, -1, 0, 0, 1, 0), 2, 0);
     move(4, FORM(0, 0, 0, 0, 0, 0, 0, 0, 0, 0, 1, -1, 0, 0, 1, -1), 2, 0);
-    state = 0x9e3779b97f4a7c15u + 1;
+    seed(1);
     exchanges(100000);
     strides(1, 2, 1, 0, 0, 0);
     strides(2, 3, 5, 0, 0, 1);

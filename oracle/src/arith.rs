@@ -1,5 +1,8 @@
 //! The helpers that the Rust only calls, for f64, as document 01 settles them under
-//! "Arithmetic" and "Rotations". Nothing here is fused; std's `hypot`, `max` and `min` are not used.
+//! "Arithmetic" and "Rotations", and Note 3 of document 02 the modulus. Nothing here is fused; std's
+//! `hypot`, `max` and `min` are not used.
+
+use crate::modulus;
 
 pub const EPS: f64 = f64::EPSILON; // 2^-52
 pub const MIN_POSITIVE: f64 = f64::MIN_POSITIVE; // 2^-1022
@@ -37,19 +40,9 @@ pub fn sqrt(x: f64) -> f64 {
     x.sqrt()
 }
 
+/// The nearest, by whole numbers.
 pub fn hypot(p: f64, q: f64) -> f64 {
-    if p.is_infinite() || q.is_infinite() {
-        return f64::INFINITY;
-    }
-    if p.is_nan() || q.is_nan() {
-        return f64::NAN;
-    }
-    let (p, q) = (abs(p), abs(q));
-    let (g, h) = if p > q { (p, q) } else { (q, p) };
-    if g == 0.0 {
-        return 0.0;
-    }
-    g * sqrt(1.0 + (h / g) * (h / g))
+    modulus::hypot(p, q)
 }
 
 pub fn norm_l2(mut x: impl Iterator<Item = f64>) -> f64 {

@@ -2,6 +2,7 @@
 
 use crate::generate::floats::next_up;
 use crate::picked_forms;
+use crate::picked_moduli;
 use crate::record::Record;
 
 pub const ODD: [f64; 3] = [f64::NAN, f64::INFINITY, f64::NEG_INFINITY];
@@ -14,6 +15,11 @@ pub fn picked(call: &'static str) -> Vec<Record> {
         "lasy2" => systems().into_iter().map(|s| solve(call, s)).collect(),
         _ => picked_forms::picked(call),
     }
+}
+
+/// Cases that were chosen after the file was first drawn.
+pub fn later(call: &'static str) -> Vec<Record> {
+    [picked_forms::later(call), picked_moduli::later(call)].concat()
 }
 
 fn standardise(call: &'static str, [a, b, c, d]: [f64; 4]) -> Record {

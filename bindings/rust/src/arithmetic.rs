@@ -76,8 +76,9 @@ pub fn sqrt(x: f64) -> f64 {
     unsafe { abi::vx_sqrt(x) }
 }
 
-/// Infinity if either is infinite; else NaN if either is; else, with the larger magnitude g and the
-/// smaller h, +0 if g is zero, otherwise g × sqrt(1 + (h / g) × (h / g)).
+/// Infinity if either is infinite; else NaN if either is; else the f64 nearest to the exact root of
+/// p × p + q × q, ties to even: +0 of two zeros, infinity where the root is at least
+/// (2^54 - 1) × 2^970.
 ///
 /// ```
 /// assert_eq!(volmeixi::hypot(3.0, 4.0), 5.0);

@@ -55,6 +55,8 @@ fn roots() {
     same(sqrt(f64::from_bits(1)), 2f64.powi(-537)); // of 2^-1074
     same(sqrt(-0.0), -0.0);
     same(hypot(3.0, 4.0), 5.0);
+    same(hypot(2.0, 3.0), 3.605551275463989);
+    same(hypot(-0.0, -0.0), 0.0);
     same(norm_l2(&[-2.0, 3.0, 6.0]), hypot(hypot(2.0, 3.0), 6.0));
     same(fmax(0.0, -0.0), -0.0);
     same(abs1(-0.0), 0.0);

@@ -1,16 +1,16 @@
 -- The patterns of the finite values that are not negative: the pattern k * hid + q stands for q * 2 ^ k smallest values, and a larger pattern for a larger value. Assumes nothing.
-use mathlib.Core.Path.{_≡_, sym, ap, _∙_}
+use mathlib.Core.Path.{_≡_, refl, sym, ap, _∙_}
 use mathlib.Core.Logic.{_⊎_, inl, inr}
 use Prim.Native.Nat.{ℕ, zero, suc, _+_, _-_, _*_, _/_, _%_, _^_, _≤_, _<_}
-use native.Mathlib.Nat.{le-refl, le-of-suc-le-suc, lt-of-lt-of-le, lt-of-le-of-lt, zero-lt-suc, mul-one, mul-pos, mul-le-mul-right, mul-lt-mul-of-pos-right, lt-of-mul-lt-mul-right, mul-div-cancel, div-add-mod', mod-lt, zero-add, eq-or-lt-of-le, pow-succ'}
+use native.Mathlib.Nat.{le-refl, le-of-suc-le-suc, lt-of-lt-of-le, lt-of-le-of-lt, zero-lt-suc, mul-pos, mul-le-mul, mul-le-mul-right, mul-lt-mul-of-pos-right, lt-of-mul-lt-mul-right, mul-div-cancel, div-add-mod', mod-lt, zero-add, eq-or-lt-of-le, pow-succ'}
 use native.Mathlib.Numerals.{add-one}
 use native.Mathlib.Omega.{arith}
-use mathlib.Core.Bool.{Bool, true, false, true≢false}
+use mathlib.Core.Bool.{Bool, true, false, not, cond, true≢false}
 use lib.IntN.{ℤ}
 use lib.Dec.{T, ltb}
+use lib.Arith.{le→nltb}
 use lib.Pow.{pow-add, pow-pos, pow-mono, pow-lt, shl-lt}
-use lib.Ieee.{Float, nan, inf, fin, Format, prec, low, down, size, odd, units, fits, hid, ones, ofBits, toBits}
-use lib.Ieee.Digits.{size-le}
+use lib.Ieee.{Float, nan, inf, fin, Format, prec, emax, low, down, size, odd, units, fits, hid, ones, ofBits, toBits}
 use lib.Ieee.Fits.{two, two-le-pos, reach, down-pos, odd-fits, cond-fits, inf-fits}
 use lib.Ieee.Exact.{HasValue, units-val}
 use lib.Ieee.Bits.{ofBits-toBits}
@@ -18,7 +18,7 @@ use lib.Ieee.Scale.{overflow}
 use lib.Ieee.Positive.{positive, positive-of-value}
 use Rattle.model.specs.Root.{amount}
 use Rattle.laws.specs.RootNearest.{patternValue, infinite}
-use Rattle.laws.proofs.Digits.{size-exact}
+use Rattle.laws.proofs.Digits.{too-many}
 
 pub hid-pos : (f : Format) → 0 < hid f
 hid-pos f = pow-pos (prec f - 1)
@@ -55,7 +55,7 @@ pub record Written (f : Format) (q k : ℕ) : Type 0 where
   pub inside : k * hid f + q < infinite f
 
 module _ (f : Format) (q k : ℕ) (w : Written f q k) where
-  field-lt : k + 1 < ones f
+  pub field-lt : k + 1 < ones f
   field-lt = go k (w .lead) (w .inside)
     where
       go : (k : ℕ) → (0 < k → hid f ≤ q) → k * hid f + q < ones f * hid f → k + 1 < ones f
@@ -82,14 +82,36 @@ module _ (f : Format) (q k : ℕ) (w : Written f q k) where
       (odd-fits f (suc (prec f)) false q k (lt-of-le-of-lt (w .short) (pow-lt (le-refl (suc (prec f))))) (w .short) under)
       (inf-fits f false)
 
+-- the next power of two after the largest value
+pub edge : (f : Format) → overflow f ≡ hid f * 2 ^ (ones f - 1)
+edge f = let t = two f in let e : low f + suc (emax f) ≡ prec f - 1 + (ones f - 1) = omega arith in ap (λ (x : ℕ). 2 ^ x) e ∙ pow-add 2 (prec f - 1) (ones f - 1)
+
+-- from the pattern of plus infinity on, it is an infinity
+module _ (f : Format) (q k : ℕ) (lead : 0 < k → hid f ≤ q) (short : q ≤ 2 ^ prec f) (outside : infinite f ≤ k * hid f + q) where
+  pub over : overflow f ≤ q * 2 ^ k
+  over = rw (edge f) (go (eq-or-lt-of-le far))
+    where
+      far : ones f - 1 ≤ k + 1
+      far = let x : ones f < k + 3 = lt-of-mul-lt-mul-right (hid f) (omega (arith, twice-hid f, hid-pos f)) in omega arith
+
+      go : (ones f - 1 ≡ k + 1) ⊎ (ones f - 1 < k + 1) → hid f * 2 ^ (ones f - 1) ≤ q * 2 ^ k
+      go (inl e) =
+          let o : ones f ≡ k + 2 = omega arith in
+          let x : 2 * hid f ≤ q = omega (arith, ap (λ (z : ℕ). z * hid f) o) in
+          rw (e, pow-add 2 k 1) (omega (arith, mul-le-mul-right (2 ^ k) x))
+      go (inr l) = let t = two f in let r = reach f in mul-le-mul (lead (omega arith)) (pow-mono (omega arith))
+
+  pub infinite-units : units f false q k ≡ inf false
+  unfolding units
+  infinite-units = go (ltb (q * 2 ^ k) (overflow f)) (le→nltb (q * 2 ^ k) (overflow f) over)
+    where
+      go : (b : Bool) → T (not b) → cond b (odd (suc (prec f)) false q k (low f)) (inf false) ≡ inf false
+      go true h = absurd h
+      go false h = refl
+
 -- with the leading digit in its place, exactly k digits are dropped
 dropped : (p k q : ℕ) → 0 < p → (0 < k → 2 ^ (p - 1) ≤ q) → q < 2 ^ p → size (q * 2 ^ k) - p ≡ k
-dropped p zero q P lead hi = let z = size-le (q * 1) p (rw mul-one hi) in omega arith
-dropped p (suc k) q P lead hi =
-    let a : 2 ^ (p - 1 + suc k) ≤ q * 2 ^ suc k = rw (pow-add 2 (p - 1) (suc k)) (mul-le-mul-right (2 ^ suc k) (lead (zero-lt-suc k))) in
-    let e : p + suc k ≡ suc (p - 1 + suc k) = omega arith in
-    let z = size-exact (p - 1 + suc k) (q * 2 ^ suc k) a (rw e at (shl-lt p (suc k) hi)) in
-    omega arith
+dropped p k q P lead hi = too-many p k (q * 2 ^ k) P (λ z. rw (pow-add 2 (p - 1) k) (mul-le-mul-right (2 ^ k) (lead z))) (shl-lt p k hi)
 
 bits-short : (f : Format) (q k : ℕ) → (0 < k → hid f ≤ q) → q < 2 ^ prec f → bitsOf f (q * 2 ^ k) ≡ k * hid f + q
 bits-short f q k lead hi =

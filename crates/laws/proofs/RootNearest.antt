@@ -4,7 +4,7 @@
 use mathlib.Core.Path.{_≡_, refl, sym, ap, _∙_}
 use mathlib.Core.Logic.{_⊎_, inl, inr}
 use Prim.Native.Nat.{ℕ, suc, _+_, _-_, _*_, _/_, _^_, _≤_, _<_}
-use native.Mathlib.Nat.{le-trans, le-of-lt, le-of-eq, le-refl, lt-of-lt-of-le, lt-of-le-of-lt, one-mul, mul-le-mul, mul-le-mul-right, mul-lt-mul-of-pos-right, le-mul-of-pos-right, div-mul-le-self, lt-div-mul-add, le-div-iff-mul-le, eq-or-lt-of-le, pow-succ'}
+use native.Mathlib.Nat.{le-trans, le-refl, lt-of-lt-of-le, lt-of-le-of-lt, one-mul, mul-le-mul-right, mul-lt-mul-of-pos-right, le-mul-of-pos-right, div-mul-le-self, lt-div-mul-add, le-div-iff-mul-le, eq-or-lt-of-le, pow-succ'}
 use native.Mathlib.Omega.{arith}
 use mathlib.Core.Bool.{false}
 use lib.Dec.{T, lit≤}
@@ -19,6 +19,7 @@ use Rattle.model.specs.Root.{amount, root, sqrt}
 use Rattle.laws.specs.RootNearest.{IsRoot, square, infinite, patternValue, inSquares, twiceMiddle, NearestRoot, NearestOfAll, RootNearest}
 use Rattle.laws.proofs.Digits.{pow-lt-back, odd-le}
 use Rattle.laws.proofs.WholeRoot.{root-is, le-root, root-lt}
+use Rattle.laws.proofs.Neighbours.{square-mono, any-smaller, any-larger, any-negative}
 use Rattle.laws.proofs.RootCases.{sqrt-below, sqrt-fits}
 use Rattle.laws.proofs.Halfway.{round-halfway}
 use Rattle.laws.proofs.Patterns.{Written, at, here, there, pattern-bits, pattern-value, pattern-positive, in-order, twice-hid, hid-pos}
@@ -129,9 +130,6 @@ no-tie f q k t j short long e =
     omega (arith, twice-hid f)
 
 -- ---- from twice R to four times n
-square-mono : (a b : ℕ) → a ≤ b → square a ≤ square b
-square-mono a b h = mul-le-mul h h
-
 below-sum : (n R s : ℕ) → IsRoot n R → 2 * (R + 1) ≤ s → 4 * n < square s
 below-sum n R s r y = let z = square-mono (2 * (R + 1)) s y in omega (arith, r .1)
 
@@ -201,23 +199,14 @@ stays-positive f x fit pos = let r = result f x fit pos in rw (r .is) (pattern-p
 
 -- ---- against all: the neighbours are the nearest of the others
 against-all : (f : Format) (b r : ℕ) → NearestRoot f b r → NearestOfAll f b r
-against-all f b r n = record { smaller = smaller; larger = larger; negative = negative }
-  where
-    no-less : (c d : ℕ) → c ≤ d → d < infinite f → patternValue f c ≤ patternValue f d
-    no-less c d l i = elim (eq-or-lt-of-le l) [ inl e ↦ le-of-eq (ap (patternValue f) e) | inr g ↦ le-of-lt (in-order f c d g i) ]
-
-    smaller : (c : ℕ) → c < r → square (twiceMiddle f c r) < 4 * inSquares f b
-    smaller c l =
-        let g = no-less c (r - 1) (omega arith) (omega (arith, n .most)) in
-        lt-of-le-of-lt (square-mono (twiceMiddle f c r) (twiceMiddle f (r - 1) r) (omega arith)) (n .above)
-
-    larger : (c : ℕ) → r < c → c < infinite f → 4 * inSquares f b < square (twiceMiddle f r c)
-    larger c l i =
-        let g = no-less (r + 1) c (omega arith) i in
-        lt-of-lt-of-le (n .below) (square-mono (twiceMiddle f r (r + 1)) (twiceMiddle f r c) (omega arith))
-
-    negative : (c : ℕ) → square (patternValue f r - patternValue f c) < 4 * inSquares f b
-    negative c = lt-of-le-of-lt (square-mono (patternValue f r - patternValue f c) (twiceMiddle f 0 r) (omega arith)) (smaller 0 (n .least))
+against-all f b r n =
+    let v = patternValue f in
+    let top = infinite f in
+    record {
+      smaller = λ c l. lt-of-le-of-lt (any-smaller v top (in-order f) c r l (omega (arith, n .most))) (n .above);
+      larger = λ c l i. lt-of-lt-of-le (n .below) (any-larger v top (in-order f) c r l i);
+      negative = λ c. lt-of-le-of-lt (any-negative v top (in-order f) (v c) r) (n .above);
+    }
 
 -- ---- the claim
 pub root-nearest : (f : Format) → RootNearest f

@@ -1,3 +1,6 @@
 pub mod RootNearest
 pub mod Worked
 pub mod InOrder
+pub mod HalfDigits
+pub mod Cut
+pub mod ModulusNearest

@@ -1,9 +1,10 @@
 -- Document 01's arithmetic over a format: constants, magnitudes, fmax and fmin, the modulus, the norm and the inner product. Definitions only. Assumes nothing.
-use Prim.Native.Nat.{ℕ, zero, suc, _+_}
+use Prim.Native.Nat.{ℕ, zero, suc, _+_, _*_, _^_}
 use mathlib.Core.Bool.{Bool, true, false, _||_, cond}
 use mathlib.Core.List.{List, [], _∷_}
-use lib.Ieee.{Float, nan, inf, fin, Format, binary32, binary64, add, mul, div, lt, eq, isNan, ofBits}
-use Rattle.model.specs.Root.{sqrt}
+use lib.Dec.{eqb}
+use lib.Ieee.{Float, nan, inf, fin, Format, binary32, binary64, low, add, mul, div, lt, isNan, round, ofBits}
+use Rattle.model.specs.Root.{root, amount}
 
 -- ---- constants, by their patterns
 
@@ -83,23 +84,34 @@ fmax p q = cond (lt q p || isNan q) p q
 unfoldable pub fmin : Float → Float → Float
 fmin p q = cond (lt p q || isNan q) p q
 
--- the modulus of a pair of finite magnitudes, the larger g first
+-- ---- the modulus
+
+-- Half the root of n smallest values, rounded to the nearest, ties to even.
+-- With R the whole part of the root, R is the root itself, or the root lies between R and R + 1, as R + 1/2 does. Twice the middle of two neighbours is a whole number of smallest values: none lies
+-- strictly between R and R + 1. So the root is rounded as the one or the other, half of it as half of that.
+unfoldable pub halfRoot : Format → ℕ → Float
+unfolding root round
+halfRoot f n = let R = root n in round f false (cond (eqb (R * R) n) (2 * R) (2 * R + 1)) (4 * 2 ^ low f)
+
+-- four times the sum of the squares of two finite values, in squares of the smallest value
+unfoldable pub fourSquares : Format → Float → Float → ℕ
+unfolding amount
+fourSquares f p q = 4 * (amount f p * amount f p + amount f q * amount f q)
+
+-- the modulus of two finite values: the value nearest to the root of p * p + q * q, which is half the root of four times that; an infinity from the middle of the largest value and the next power of two on
 unfoldable pub modulus : Format → Float → Float → Float
-unfolding sqrt
-modulus f g h = cond (eq g (zeroOf f)) (zeroOf f) (mul f g (sqrt f (add f (oneOf f) (mul f (div f h g) (div f h g)))))
+unfolding halfRoot fourSquares
+modulus f p q = halfRoot f (fourSquares f p q)
 
 unfoldable pub isInf : Float → Bool
 isInf nan = false
 isInf (inf s) = true
 isInf (fin s m e) = false
 
--- infinity if either is infinite; else NaN if either is; else by the larger and the smaller magnitude
+-- infinity if either is infinite; else NaN if either is; else the nearest value
 unfoldable pub hypot : Format → Float → Float → Float
-unfolding isInf abs modulus
-hypot f p q =
-    cond (isInf p || isInf q) (inf false)
-    (cond (isNan p || isNan q) nan
-    (cond (lt (abs p) (abs q)) (modulus f (abs q) (abs p)) (modulus f (abs p) (abs q))))
+unfolding isInf
+hypot f p q = cond (isInf p || isInf q) (inf false) (cond (isNan p || isNan q) nan (modulus f p q))
 
 -- ---- lists of numbers
 

@@ -4,7 +4,7 @@ use Prim.Native.Nat.{ℕ, zero, suc, _+_, _*_, _^_, _<_}
 use native.Mathlib.Nat.{zero-lt-suc, mul-pos}
 use native.Mathlib.Omega.{arith}
 use mathlib.Core.Bool.{Bool, true, false, true≢false}
-use lib.Dec.{T, eqb, ltb, ltb→lt, lt→ltb, eqb→eq, eqb-refl}
+use lib.Dec.{T, eqb, ltb→lt, lt→ltb, eqb→eq, eqb-refl}
 use lib.IntN.{ℤ, pos, negsuc}
 use lib.Pow.{pow-pos}
 use lib.Ieee.{Float, nan, inf, fin, Format, up, down, fits, lt, eq, ne, neg, isNan}
@@ -46,7 +46,7 @@ abs-below (fin true m e) h = refl
 abs-below (fin false m e) h = let k = ltb→lt (m * up e * 1) (0 * 1 * down e) h in absurd (omega arith)
 
 -- a zero that fits is written in one way
-zero-fits : (e : ℤ) → T (eqb (up e * down e) 1) → e ≡ pos 0
+pub zero-fits : (e : ℤ) → T (eqb (up e * down e) 1) → e ≡ pos 0
 zero-fits (pos zero) h = refl
 zero-fits (pos (suc k)) h = let q = eqb→eq (2 ^ suc k * 1) 1 h in absurd (omega (arith, pow-pos k))
 zero-fits (negsuc k) h = let q = eqb→eq (1 * 2 ^ suc k) 1 h in absurd (omega (arith, pow-pos k))

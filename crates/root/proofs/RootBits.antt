@@ -1,23 +1,17 @@
 -- The pattern of a root, from the digits of the number and of the root. Assumes nothing.
 use mathlib.Core.Path.{_≡_, _∙_}
 use mathlib.Core.Bool.{not}
-use Prim.Native.Nat.{ℕ, suc, _+_, _-_, _*_, _/_, _%_, _^_, _<_}
+use Prim.Native.Nat.{ℕ, suc, _+_, _-_, _*_, _/_, _^_, _<_}
 use native.Mathlib.Omega.{arith}
 use lib.Pow.{pow-add}
-use lib.Arith.{le→nltb}
 use lib.Dec.{T}
 use lib.Ieee.{binary64, ofBits, nanBits}
-use lib.Ieee.Bits.{nanBits-above}
 use Rattle.model.specs.Root.{root, sqrt}
-use Rattle.laws.proofs.WholeRoot.{root-is, le-root, root-lt}
+use Rattle.laws.proofs.WholeRoot.{root-is, le-root}
 use Rattle.laws.proofs.RootByDigits.{root-by-digits}
+use Rattle.digits.proofs.Short.{short}
+use Rattle.digits.proofs.NoNan.{no-nan-to}
 use Rattle.root.specs.Sqrt.{Parts, Even}
-
-pub short : (d r : ℕ) → d < 2 ^ 54 → r ≡ root (d * 2 ^ 54) → r < 2 ^ 54
-short d r h e = rw e (root-lt (d * 2 ^ 54) (root (d * 2 ^ 54)) (root-is (d * 2 ^ 54)) (2 ^ 54) (omega arith))
-
-pub finite-no-nan : (n : ℕ) → n < 0x7ff0_0000_0000_0000 → T (not (nanBits binary64 n))
-finite-no-nan n h = rw (nanBits-above binary64 n) (le→nltb (2047 * 2 ^ 52) (n % 2 ^ 63) (omega arith))
 
 module _ (b digits power d r : ℕ) (some : 0 < b) (finite : b < 0x7ff0_0000_0000_0000) (p : Parts b digits power) (e : Even digits power d) (w : r ≡ root (d * 2 ^ 54)) where
   -- 54 of the zeros are d's
@@ -40,4 +34,4 @@ module _ (b digits power d r : ℕ) (some : 0 < b) (finite : b < 0x7ff0_0000_000
       (omega (arith, p .most, below)))
 
   pub no-nan : T (not (nanBits binary64 ((power / 2 - 26) * 2 ^ 52 + (r + 1) / 2)))
-  no-nan = finite-no-nan ((power / 2 - 26) * 2 ^ 52 + (r + 1) / 2) (omega (arith, p .most, below))
+  no-nan = no-nan-to ((power / 2 - 26) * 2 ^ 52 + (r + 1) / 2) (omega (arith, p .most, below))

@@ -1,3 +1,2 @@
 // Offered: the square root.
 pub mod sqrt;
-mod table;

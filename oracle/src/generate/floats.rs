@@ -112,6 +112,11 @@ pub fn next_up(x: f64) -> f64 {
     })
 }
 
+/// The next number below a finite one that is not zero.
+pub fn next_down(x: f64) -> f64 {
+    -next_up(-x)
+}
+
 /// A subnormal of any number of digits.
 pub fn subnormal(rng: &mut Rng) -> f64 {
     f64::from_bits(rng.bits() >> rng.between(12, 63))

@@ -3,6 +3,7 @@
 mod damage;
 pub mod floats;
 mod forms;
+pub mod moduli;
 pub mod rng;
 mod small;
 mod strides;
@@ -22,13 +23,19 @@ pub struct Sizes {
 
 pub const USUAL: Sizes = Sizes { least: 1, most: 12 };
 
-/// The case of a call with the given index.
+/// The case of a call with the given index; every second one of a call that takes moduli is drawn for
+/// them.
 pub fn case(call: &'static str, seed: u64, index: u64, sizes: Sizes) -> Record {
-    draw(&mut Rng::new(seed, call, index), call, index, sizes)
+    let rng = &mut Rng::new(seed, call, index);
+    match call {
+        "hypot" | "norm_l2" | "make_householder_in_place" if index % 2 == 1 => moduli::case(call, rng, index / 2),
+        "hypot" | "norm_l2" | "make_householder_in_place" => draw(rng, call, index / 2, sizes),
+        _ => draw(rng, call, index, sizes),
+    }
 }
 
-/// The same for the stored vectors, which pass over one case in 64 of a call with several results:
-/// the file was first drawn so, and stays as it is.
+/// The same for the stored vectors, which pass over one case in 64 of a call with several results, and
+/// have none that is drawn for moduli: the file was first drawn so, and stays as it is.
 pub fn stored(call: &'static str, seed: u64, index: u64, sizes: Sizes) -> Option<Record> {
     let rng = &mut Rng::new(seed, call, index);
     let case = draw(rng, call, index, sizes);

@@ -4,7 +4,8 @@ use Prim.Native.Nat.{ℕ, _+_, _*_, _/_, _^_, _≤_, _<_}
 use native.Mathlib.Omega.{arith}
 use borrow.Author.Needs.{needs}
 use Rattle.model.specs.Root.{root}
-use Rattle.root.proofs.RootBits.{short, is-root, no-nan}
+use Rattle.digits.proofs.Short.{short}
+use Rattle.root.proofs.RootBits.{is-root, no-nan}
 use Rattle.root.proofs.sqrt.root_bits.Statement.{statement}
 use Rattle.root.proofs.sqrt.root_bits.Tie as tie
 

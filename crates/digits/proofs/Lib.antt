@@ -1,0 +1,3 @@
+pub mod Short
+pub mod Newton
+pub mod NoNan
