@@ -6,6 +6,7 @@
 //   differences declines COUNT SEED  random exchanges of a 2-block and a row: how often LAPACK declines
 //   differences moduli COUNT SEED    random pairs: how often 01's formula and C's hypot are not the nearest
 #define _GNU_SOURCE
+#include "draws.h"
 #include "ours.h"
 #include <dlfcn.h>
 #include <math.h>
@@ -72,19 +73,6 @@ static void rows(const char *who, int n, const double *t) { rows_at(who, n, n, t
 
 // One number of each side.
 static void one(const char *who, double x) { printf("  %-8s %s\n", who, number(x)); }
-
-// ---- draws
-
-static uint64_t state;
-
-static uint64_t next(void) { // xorshift64*
-    state ^= state >> 12;
-    state ^= state << 25;
-    state ^= state >> 27;
-    return state * 2685821657736338717u;
-}
-
-static void seed(uint64_t x) { state = x * 0x9e3779b97f4a7c15u + 1; }
 
 // ---- moduli
 

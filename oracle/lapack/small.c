@@ -8,6 +8,7 @@
 // its magnitudes). With PLAIN=1, LAPACK's dlapy2 is a plain root of a sum of squares too, so that
 // only the other kinds of difference are left.
 #define _GNU_SOURCE
+#include "draws.h"
 #include "ours.h"
 #include <dlfcn.h>
 #include <math.h>
@@ -34,15 +35,6 @@ double dlapy2_(const double *x, const double *y) {
     if (!theirs)
         *(void **)&theirs = dlsym(RTLD_NEXT, "dlapy2_");
     return theirs(x, y);
-}
-
-static uint64_t state;
-
-static uint64_t next(void) { // xorshift64*
-    state ^= state >> 12;
-    state ^= state << 25;
-    state ^= state >> 27;
-    return state * 2685821657736338717u;
 }
 
 static int same(const double *x, const double *y, int n) {
@@ -193,7 +185,7 @@ int main(int argc, char **argv) {
     int n = blocks ? 4 : 12;
     plain = getenv("PLAIN") != 0;
     if (argc == 5 && !strcmp(argv[2], "random")) {
-        state = strtoull(argv[4], 0, 10) * 0x9e3779b97f4a7c15u + 1;
+        seed(strtoull(argv[4], 0, 10));
         random_cases(blocks, strtol(argv[3], 0, 10));
         return 0;
     }

@@ -63,13 +63,13 @@ zero-eq binary64 (fin true m e) den p h = absurd (true≢false (h .0))
 zero-eq binary32 (fin false m e) den p h = rw (nothing (m * up e) den (down e) p (h .1))
 zero-eq binary64 (fin false m e) den p h = rw (nothing (m * up e) den (down e) p (h .1))
 
-exact : (f : Format) (den : ℕ) → 0 < den → HasValue (round f false 0 den) false 0 den
-exact f den p = round-exact f false 0 den 0 0 p (pow-pos (prec f)) (pow-pos (low f + suc (emax f))) (omega arith)
+rounds-to-zero : (f : Format) (den : ℕ) → 0 < den → eq (round f false 0 den) (ofBits f 0) ≡ true
+rounds-to-zero f den p = zero-eq f (round f false 0 den) den p (round-exact f false 0 den 0 0 p (pow-pos (prec f)) (pow-pos (low f + suc (emax f))) (omega arith))
 
 self : (f : Format) (s : Bool) (m : ℕ) (e : ℤ) → isFinite f (fin s m e) ≡ true
 unfolding sub add neg sum
-self f true m e = let a = m * up e * down e in rw (le-ltb a a (le-refl a), sub-self a) (zero-eq f (round f false 0 (down e * down e)) (down e * down e) (mul-pos (down-pos e) (down-pos e)) (exact f (down e * down e) (mul-pos (down-pos e) (down-pos e))))
-self f false m e = let a = m * up e * down e in rw (le-ltb a a (le-refl a), sub-self a) (zero-eq f (round f false 0 (down e * down e)) (down e * down e) (mul-pos (down-pos e) (down-pos e)) (exact f (down e * down e) (mul-pos (down-pos e) (down-pos e))))
+self f true m e = let a = m * up e * down e in rw (le-ltb a a (le-refl a), sub-self a) (rounds-to-zero f (down e * down e) (mul-pos (down-pos e) (down-pos e)))
+self f false m e = let a = m * up e * down e in rw (le-ltb a a (le-refl a), sub-self a) (rounds-to-zero f (down e * down e) (mul-pos (down-pos e) (down-pos e)))
 
 -- what is neither finite nor infinite
 nan-is : (f : Format) (x : Float) → isFinite f x ≡ false → isInf x ≡ false → x ≡ nan

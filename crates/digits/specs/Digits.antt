@@ -1,6 +1,8 @@
 -- What the functions of `digits` hand to one another and out. Assumes nothing.
 use mathlib.Core.Path.{_≡_}
 use Prim.Native.Nat.{ℕ, _+_, _-_, _*_, _/_, _%_, _^_, _≤_, _<_}
+use mathlib.Core.Bool.{cond}
+use lib.Dec.{ltb}
 use lib.Ieee.{binary64}
 use Rattle.laws.specs.RootNearest.{patternValue}
 
@@ -43,9 +45,20 @@ tOf d y = d / 0x40_0000 * y / 0x8000_0000 % 0x1_0000_0000
 abbrev pub stepOf : ℕ → ℕ → ℕ
 stepOf d y = 0xbfff_ffff - tOf d y * y / 0x2_0000_0000
 
--- root and inverse are what one step of Newton's makes of a y near 2 ^ 32 / √m
-pub record NewtonStep (d root inverse : ℕ) : Type 0 where
-  pub y : ℕ
-  pub near : NearInverse d y
+-- root and inverse are what one step of Newton's makes of y
+pub record NewtonStep (d y root inverse : ℕ) : Type 0 where
   pub of-root : root ≡ tOf d y * stepOf d y / 0x8000_0000 % 0x1_0000_0000
   pub of-inverse : inverse ≡ y * stepOf d y / 0x8000_0000 % 0x1_0000_0000
+
+-- the digits of s, and those of what is left of x over twice s; 2 ^ 53 where s is not near
+abbrev pub halfOf : ℕ → ℕ → ℕ → ℕ
+halfOf x s inverse = cond (ltb x (s * s)) (2 ^ 53) (cond (ltb (x - s * s) 0xf_0000_0000) (s * 0x20_0000 + ((x - s * s) / 16 * inverse + 0x41_0000_0000) / 0x80_0000_0000) (2 ^ 53))
+
+-- r is that of a step of Newton's from y
+pub record NearHalf (d x y r : ℕ) : Type 0 where
+  pub root : ℕ
+  pub inverse : ℕ
+  pub step : NewtonStep d y root inverse
+  pub is : r ≡ halfOf x root inverse
+  pub least : 1 < r
+  pub most : r < 2 ^ 54

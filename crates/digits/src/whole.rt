@@ -3,11 +3,14 @@ ghost use mathlib.Core.Path.{_≡_};
 ghost use Prim.Native.Nat.{_+_, _*_, _/_, _<_, _≤_, _^_};
 ghost use lib.Dec.{eqb};
 ghost use Rattle.model.specs.Root as Root;
-ghost use Rattle.digits.specs.Digits.{NearInverse, NewtonStep};
+ghost use Rattle.digits.specs.Digits.{NearInverse, NewtonStep, NearHalf};
 use crate::table::line_at;
 
+// Any number of digits where the root found is not near: it fails the test.
+const FAR: u64 = 0x20_0000_0000_0000;
+
 // A root and the inverse of one, both near.
-pub struct Near {
+struct Near {
     pub root: u64,
     pub inverse: u64,
 }
@@ -41,7 +44,7 @@ pub fn whole_root(d: u64) -> u64
 
 // A number near 2^32 / √m, with m = d / 2^52: on a line of the table, within one part in 2^14. Promised
 // is that it is no higher than where the line starts, and no lower than where it ends.
-fn near_inverse(d: u64) -> u64
+pub fn near_inverse(d: u64) -> u64
     requires { ⌜ (2 ^ 52 ≤ d) × (d < 2 ^ 54) ⌝ }
     ensures { λ r. ⌜ NearInverse d r ⌝ }
 {
@@ -81,11 +84,10 @@ fn is_nearest(d: u64, k: u64) -> bool
 
 // One step of Newton's, without a division, from y near 2^32 / √m, with m = d / 2^52: a root just below
 // 2^31 * √m, and a better y.
-pub fn near_root(d: u64) -> Near
-    requires { ⌜ (2 ^ 52 ≤ d) × (d < 2 ^ 54) ⌝ }
-    ensures { λ r. ⌜ NewtonStep d (r .root) (r .inverse) ⌝ }
+fn near_root(d: u64, y: u64) -> Near
+    requires { ⌜ (d < 2 ^ 54) × NearInverse d y ⌝ }
+    ensures { λ r. ⌜ NewtonStep d y (r .root) (r .inverse) ⌝ }
 {
-    let y = near_inverse(d);
     let t = d / 0x40_0000 * y / 0x8000_0000 % 0x1_0000_0000;
     let step = 0xbfff_ffff - t * y / 0x2_0000_0000;
     Near {
@@ -94,24 +96,35 @@ pub fn near_root(d: u64) -> Near
     }
 }
 
+// Half the root of a number of 108 digits, nearly, from its first 54, d, and its first 64, x, and the
+// inverse of the root. After the step of Newton's, the digits that are left are those of what is left of
+// x, over twice the root.
+pub fn near_half(d: u64, x: u64, y: u64) -> u64
+    requires { ⌜ (d < 2 ^ 54) × NearInverse d y × (2 ^ 62 ≤ x) ⌝ }
+    ensures { λ r. ⌜ NearHalf d x y r ⌝ }
+{
+    let near = near_root(d, y);
+    let s = near.root;
+    let inverse = near.inverse;
+    if s * s <= x {
+        let left = x - s * s;
+        if left < 0xf_0000_0000 {
+            return s * 0x20_0000 + (left / 16 * inverse + 0x41_0000_0000) / 0x80_0000_0000;
+        }
+    }
+    FAR
+}
+
 // The root of d * 2^52, rounded to the nearest. How its digits are found is free, since they are tested;
-// where the test fails, about once in 200, they are worked out. After the step of Newton's, the digits
-// that are left are those of what is left of m, over twice the root.
+// where the test fails, about once in 200, they are worked out.
 pub fn nearest_root(d: u64) -> u64
     requires { ⌜ (2 ^ 52 ≤ d) × (d < 2 ^ 54) ⌝ }
     ensures { λ r. ⌜ r ≡ (Root.root (d * 2 ^ 54) + 1) / 2 ⌝ }
 {
-    let near = near_root(d);
-    let s = near.root;
-    let inverse = near.inverse;
-    if s * s <= d * 0x400 {
-        let rest = d * 0x400 - s * s;
-        if rest < 0xf_0000_0000 {
-            let k = s * 0x20_0000 + (rest / 16 * inverse + 0x41_0000_0000) / 0x80_0000_0000;
-            if is_nearest(d, k) {
-                return k;
-            }
-        }
+    let y = near_inverse(d);
+    let k = near_half(d, d * 0x400, y);
+    if is_nearest(d, k) {
+        return k;
     }
     (whole_root(d) + 1) / 2
 }

@@ -10,13 +10,11 @@ use Rattle.laws.specs.RootNearest.{square}
 use Rattle.laws.specs.HalfDigits.{HalfDigits}
 use Rattle.laws.specs.Cut.{Cut, NearestHalf}
 use Rattle.laws.proofs.Patterns.{twice-hid, hid-pos}
+use Rattle.laws.proofs.Neighbours.{square-lt}
 
 -- a square with zeros after its root's digits
 square-scale : (a w : ℕ) → square (a * w) ≡ square a * (w * w)
 square-scale a w = omega arith
-
-square-lt : (a b : ℕ) → a + 1 ≡ b → square a < square b
-square-lt a b e = rw (← e) (omega arith)
 
 cancel-le : (a b w : ℕ) → 0 < w → a * w ≤ b * w → a ≤ b
 cancel-le a b w W h =
@@ -114,19 +112,19 @@ pub exact-digits : (f : Format) (q k : ℕ) → (0 < k → hid f ≤ q) → q < 
 exact-digits f q k lead short =
     record {
       lead = λ z. rw twice (mul-le-mul (mul-le-mul-right (2 ^ k) (let l = lead z in omega (arith, twice-hid f))) (mul-le-mul-right (2 ^ k) (let l = lead z in omega (arith, twice-hid f))));
-      short = rw (twice, square-scale (2 * q) (2 ^ k), square-scale (2 * 2 ^ prec f) (2 ^ k)) (mul-lt-mul-of-pos-right (lt-of-lt-of-le (square-lt (2 * q) (2 * q + 1) refl) (let g : 2 * q + 1 ≤ 2 * 2 ^ prec f = omega arith in mul-le-mul g g)) (mul-pos (pow-pos k) (pow-pos k)));
+      short = rw (twice, square-scale (2 * q) (2 ^ k), square-scale (2 * 2 ^ prec f) (2 ^ k)) (mul-lt-mul-of-pos-right (lt-of-lt-of-le (square-lt (2 * q) (2 * q + 1) (omega arith)) (let g : 2 * q + 1 ≤ 2 * 2 ^ prec f = omega arith in mul-le-mul g g)) (mul-pos (pow-pos k) (pow-pos k)));
       from = rw twice (let g : (2 * q - 1) * 2 ^ k ≤ 2 * q * 2 ^ k = mul-le-mul-right (2 ^ k) (omega arith) in mul-le-mul g g);
       to = rw twice (let g : 2 * q * 2 ^ k ≤ (2 * q + 1) * 2 ^ k = mul-le-mul-right (2 ^ k) (omega arith) in mul-le-mul g g);
       even-from = λ e. go (eq-zero-or-pos q) e;
-      even-to = λ e. absurd (past (2 * q) (2 * q + 1) refl (sym twice ∙ e));
+      even-to = λ e. absurd (past (2 * q) (2 * q + 1) (omega arith) (sym twice ∙ e));
     }
   where
     twice : 4 * square (q * 2 ^ k) ≡ square (2 * q * 2 ^ k)
     twice = omega arith
 
-    past : (a b : ℕ) → a + 1 ≡ b → square (a * 2 ^ k) ≡ square (b * 2 ^ k) → ⊥
-    past a b s e =
-        let l : square a * (2 ^ k * 2 ^ k) < square b * (2 ^ k * 2 ^ k) = mul-lt-mul-of-pos-right (square-lt a b s) (mul-pos (pow-pos k) (pow-pos k)) in
+    past : (a b : ℕ) → a < b → square (a * 2 ^ k) ≡ square (b * 2 ^ k) → ⊥
+    past a b h e =
+        let l : square a * (2 ^ k * 2 ^ k) < square b * (2 ^ k * 2 ^ k) = mul-lt-mul-of-pos-right (square-lt a b h) (mul-pos (pow-pos k) (pow-pos k)) in
         omega (arith, l, sym (square-scale a (2 ^ k)) ∙ e ∙ square-scale b (2 ^ k))
 
     go : (q ≡ 0) ⊎ (0 < q) → square ((2 * q - 1) * 2 ^ k) ≡ 4 * square (q * 2 ^ k) → q % 2 ≡ 0

@@ -20,7 +20,7 @@ use Rattle.laws.specs.HalfDigits.{HalfDigits}
 use Rattle.laws.specs.ModulusNearest.{sumOfSquares, reachValue, twiceReach, twiceEdge, UpTo, NearestModulus, NearestOfFinite, ModulusNearest}
 use Rattle.laws.proofs.Patterns.{at, pattern-bits, twice-hid}
 use Rattle.laws.proofs.Values.{own-value}
-use Rattle.laws.proofs.Neighbours.{square-mono, any-smaller, any-larger, any-negative}
+use Rattle.laws.proofs.Neighbours.{square-mono, square-lt, any-smaller, any-larger, any-negative}
 use Rattle.laws.proofs.HalfRoot.{half-lead, half-short, half-root-units, half-root-infinite}
 use Rattle.laws.proofs.HalfDigits.{half-digits}
 use Rattle.laws.proofs.Reach.{infinite-pos, own-reach, middle, reach-zero, reach-order, parity, field-le}
@@ -34,9 +34,6 @@ further-up r a b n u l = (le-trans (u .0) l, λ e. u .1 (le-antisymm (u .0) (le-
 
 strictly : (r a b : ℕ) → a < b → UpTo r a b
 strictly r a b l = (le-of-lt l, λ e. absurd (omega arith))
-
-square-lt : (a b : ℕ) → a < b → square a < square b
-square-lt a b l = let x = square-mono (a + 1) b (omega arith) in omega arith
 
 doubled : (y k h : ℕ) → k < h → 2 * y * 2 ^ k ≤ y * 2 ^ h
 doubled y k h l = let x : y * 2 ^ suc k ≤ y * 2 ^ h = mul-le-mul-left y (pow-mono l) in let z = rw (pow-succ' 2 k) at x in omega arith

@@ -9,6 +9,9 @@ use Rattle.laws.specs.RootNearest.{square}
 pub square-mono : (a b : ℕ) → a ≤ b → square a ≤ square b
 square-mono a b h = mul-le-mul h h
 
+pub square-lt : (a b : ℕ) → a < b → square a < square b
+square-lt a b l = let x = square-mono (a + 1) b (omega arith) in omega arith
+
 -- v b is the value at place b, and the values increase below the place `top`
 module _ (v : ℕ → ℕ) (top : ℕ) (order : (b c : ℕ) → b < c → c < top → v b < v c) where
   no-less : (c d : ℕ) → c ≤ d → d < top → v c ≤ v d

@@ -9,6 +9,7 @@ use Rattle.model.specs.Root.{root}
 use Rattle.laws.specs.RootNearest.{square}
 use Rattle.laws.specs.Cut.{NearestHalf}
 use Rattle.laws.proofs.WholeRoot.{root-is, le-root}
+use Rattle.laws.proofs.HalfRoot.{one-less}
 use Rattle.digits.proofs.Short.{short}
 use Rattle.modulus.specs.Modulus.{wide, Square}
 
@@ -55,11 +56,11 @@ module _ {high low s R : ℕ} (asked : (2 ^ 52 ≤ high) × (high < 2 ^ 54) × (
   abbrev under : ℕ
   under = (2 * k - 1) * w
 
-  one-less : under + w ≡ 2 * (k * w)
-  one-less = let m : 2 * k - 1 + 1 ≡ 2 * k = omega (arith, some) in let z = ap (λ (x : ℕ). x * w) m in omega (arith, z)
+  beside : under + w ≡ 2 * (k * w)
+  beside = one-less k w some ∙ omega arith
 
   under-most : under ≤ R
-  under-most = omega (arith, one-less, below, pow-pos s)
+  under-most = omega (arith, beside, below, pow-pos s)
 
   most : (k * 2 + 1) * w < 2 ^ 55
   most = omega (arith, below, w-most, short high R (asked .1) is)
@@ -81,7 +82,7 @@ module _ {high low s R : ℕ} (asked : (2 ^ 52 ≤ high) × (high < 2 ^ 54) × (
       go : (under ≡ R) ⊎ (under < R) → ⊥
       go (inl q) =
           let t = k * w in
-          let o : R + 1 ≡ 2 * t = omega (arith, one-less, below, pow-pos s, q) in
+          let o : R + 1 ≡ 2 * t = omega (arith, beside, below, pow-pos s, q) in
           let z : (R + 1) * (R + 1) ≡ 2 * t * (2 * t) = ap (λ (x : ℕ). x * x) o in
           let y : under * under ≡ R * R = ap (λ (x : ℕ). x * x) q in
           omega (arith, z, y, e, r-low)

@@ -6,7 +6,8 @@ ghost use lib.Dec.{ltb};
 ghost use Rattle.laws.specs.Cut.{NearestHalf};
 ghost use Rattle.modulus.specs.Modulus.{wide};
 use crate::squares::square;
-use digits::whole::near_root;
+use digits::whole::near_half;
+use digits::whole::near_inverse;
 use digits::whole::whole_root;
 
 // Half the root, rounded to units of 2^s, from the root of the high limb: the low one lifts it by less than
@@ -56,25 +57,31 @@ fn between(high: u64, low: u64, k: u64) -> bool
     u - t_low < k * 8
 }
 
+// Half the root, rounded, where k is near and fails the test: one more or one less by the same test, else
+// worked out.
+fn beside(high: u64, low: u64, rest: u64, k: u64) -> u64
+    requires { ⌜ (2 ^ 52 ≤ high) × (high < 2 ^ 54) × (low < 2 ^ 54) × (1 < k) × (k < 2 ^ 54) ⌝ }
+    ensures { λ r. ⌜ NearestHalf (wide high low) rest 0 r ⌝ }
+{
+    if between(high, low, k + 1) {
+        return k + 1;
+    }
+    if between(high, low, k - 1) {
+        return k - 1;
+    }
+    stepped(high, low, rest, 0)
+}
+
 // Half the root, rounded. How its digits are found is free, since they are tested: where the test fails,
-// about once in 250, and at a tie, they are worked out. The digits after a step of Newton's are those of
-// what is left over twice the root.
+// about once in 170, they are one off, or it is a tie.
 pub fn nearest_half(high: u64, low: u64, rest: u64) -> u64
     requires { ⌜ (2 ^ 52 ≤ high) × (high < 2 ^ 54) × (low < 2 ^ 54) ⌝ }
     ensures { λ r. ⌜ NearestHalf (wide high low) rest 0 r ⌝ }
 {
-    let near = near_root(high);
-    let s = near.root;
-    let inverse = near.inverse;
-    let x = high * 0x400 + low / 0x1000_0000_0000;
-    if s * s <= x {
-        let left = x - s * s;
-        if left < 0xf_0000_0000 {
-            let k = s * 0x20_0000 + (left / 16 * inverse + 0x41_0000_0000) / 0x80_0000_0000;
-            if between(high, low, k) {
-                return k;
-            }
-        }
+    let y = near_inverse(high);
+    let k = near_half(high, high * 0x400 + low / 0x1000_0000_0000, y);
+    if between(high, low, k) {
+        return k;
     }
-    stepped(high, low, rest, 0)
+    beside(high, low, rest, k)
 }

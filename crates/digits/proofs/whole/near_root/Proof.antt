@@ -18,26 +18,23 @@ module _ (d y : ℕ) (h : y < 2 ^ 32) where
   ys : y * stepOf d y ≤ 0xffff_ffff * 0xffff_ffff
   ys = product y (stepOf d y) h (omega arith)
 
-near-inverse-requires : tie.Need-near-inverse-requires
-near-inverse-requires c κs = search needs
-
 mul-t : tie.Need-mul-t
-mul-t c = omega (arith, product (c .before .args .d / 0x40_0000) (c .near-inverse .result) (omega arith) (c .near-inverse .ensures .short))
+mul-t c = omega (arith, product (c .args .d / 0x40_0000) (c .args .y) (omega arith) (c .pre .1 .short))
 
 mul-step : tie.Need-mul-step
-mul-step c = omega (arith, ty (c .before .args .d) (c .near-inverse .result) (c .near-inverse .ensures .short))
+mul-step c = omega (arith, ty (c .args .d) (c .args .y) (c .pre .1 .short))
 
 sub-step : tie.Need-sub-step
-sub-step c = omega (arith, ty (c .before .args .d) (c .near-inverse .result) (c .near-inverse .ensures .short))
+sub-step c = omega (arith, ty (c .args .d) (c .args .y) (c .pre .1 .short))
 
 mul-t6 : tie.Need-mul-t6
-mul-t6 c = omega (arith, ts (c .before .args .d) (c .near-inverse .result) (c .near-inverse .ensures .short))
+mul-t6 c = omega (arith, ts (c .args .d) (c .args .y) (c .pre .1 .short))
 
 mul-t8 : tie.Need-mul-t8
-mul-t8 c = omega (arith, ys (c .before .args .d) (c .near-inverse .result) (c .near-inverse .ensures .short))
+mul-t8 c = omega (arith, ys (c .args .d) (c .args .y) (c .pre .1 .short))
 
 returns : tie.Need-returns
-returns c = record { y = c .near-inverse .result; near = c .near-inverse .ensures; of-root = refl; of-inverse = refl }
+returns c = record { of-root = refl; of-inverse = refl }
 
 pub near-root-spec : {M : Type 1} → statement M
-near-root-spec = tie.close (tie.spec near-inverse-requires mul-t mul-step sub-step mul-t6 mul-t8 returns)
+near-root-spec = tie.close (tie.spec mul-t mul-step sub-step mul-t6 mul-t8 returns)
