@@ -1,5 +1,4 @@
 -- `digits::whole::near_half` meets its contract: what it works out fits. Assumes nothing.
-use mathlib.Core.Path.{refl}
 use Prim.Native.Nat.{_-_, _*_}
 use native.Mathlib.Omega.{arith}
 use borrow.Author.Tests.{lt-ltb, le-ltb}

@@ -2,7 +2,6 @@
 use mathlib.Core.Path.{refl}
 use Prim.Native.Nat.{ℕ, _-_, _*_, _/_, _^_, _≤_, _<_}
 use native.Mathlib.Omega.{arith}
-use borrow.Author.Needs.{needs}
 use Rattle.digits.specs.Digits.{tOf, stepOf}
 use Rattle.digits.proofs.Short.{product}
 use Rattle.digits.proofs.whole.near_root.Statement.{statement}

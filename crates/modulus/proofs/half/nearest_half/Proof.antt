@@ -1,5 +1,4 @@
 -- `modulus::half::nearest_half` meets its contract: by the test, or by `beside`. Of the digits that are tested it uses only that they fit. Assumes nothing.
-use native.Mathlib.Omega.{arith}
 use borrow.Author.Needs.{needs}
 use Rattle.modulus.proofs.Tested.{tested}
 use Rattle.modulus.proofs.half.nearest_half.Statement.{statement}
