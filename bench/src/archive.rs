@@ -21,6 +21,8 @@ pub struct Archive {
     ) -> usize,
     evd_from_real_schur: unsafe extern "C" fn(usize, usize, *const f64, usize, *mut f64, usize) -> usize,
     block_values: unsafe extern "C" fn(usize, usize, *const f64, usize, *mut f64, usize, *mut f64, usize) -> usize,
+    make_householder_in_place:
+        unsafe extern "C" fn(f64, *mut f64, usize, *mut f64, *mut f64, *mut f64, *mut f64) -> usize,
     sqrt: unsafe extern "C" fn(f64) -> f64,
     hypot: unsafe extern "C" fn(f64, f64) -> f64,
 }
@@ -62,12 +64,22 @@ macro_rules! copy {
                 im: *mut f64,
                 im_len: usize,
             ) -> usize;
+            #[link_name = concat!("vx_make_householder_in_place_", $name)]
+            fn make_householder_in_place(
+                head: f64,
+                tail: *mut f64,
+                tail_len: usize,
+                new_head: *mut f64,
+                tau: *mut f64,
+                head_with_beta_inv: *mut f64,
+                norm: *mut f64,
+            ) -> usize;
             #[link_name = concat!("vx_sqrt_", $name)]
             fn sqrt(x: f64) -> f64;
             #[link_name = concat!("vx_hypot_", $name)]
             fn hypot(p: f64, q: f64) -> f64;
         }
-        Archive { reorder_schur, evd_from_real_schur, block_values, sqrt, hypot }
+        Archive { reorder_schur, evd_from_real_schur, block_values, make_householder_in_place, sqrt, hypot }
     }};
 }
 
@@ -120,6 +132,12 @@ impl Archive {
     #[inline(always)]
     pub fn values(&self, n: usize, ld: usize, t: &[f64], re: &mut [f64], im: &mut [f64]) -> usize {
         unsafe { (self.block_values)(n, ld, t.as_ptr(), t.len(), re.as_mut_ptr(), re.len(), im.as_mut_ptr(), im.len()) }
+    }
+
+    /// The results beside the head: tau, head_with_beta_inv, norm.
+    #[inline(always)]
+    pub fn reflect(&self, head: &mut f64, tail: &mut [f64], [tau, inverse, norm]: &mut [f64; 3]) -> usize {
+        unsafe { (self.make_householder_in_place)(*head, tail.as_mut_ptr(), tail.len(), head, tau, inverse, norm) }
     }
 
     #[inline(always)]

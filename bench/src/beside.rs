@@ -5,6 +5,7 @@
 use crate::archive::{OTHER, OURS};
 use crate::arithmetic::archives_times;
 use crate::forms::Form;
+use crate::reflections::ReflectionRow;
 use crate::report::nanoseconds;
 use crate::rows::{FormRow, MoveRow, Plan, progress};
 use crate::sides::{Side, Values};
@@ -72,6 +73,11 @@ pub fn run(plan: &Plan) {
         let taken = sides.iter().all(|side| side.values(*n, *ld, t, &mut out) == 0);
         let times = taken.then(|| row.values_times(plan, &sides, &mut out));
         compared.add(&row.what, row.kind.name(), "", n.to_string(), times);
+    }
+    for row in ReflectionRow::all(plan) {
+        let taken = sides.iter().all(|side| row.done_by(side).is_some());
+        let times = taken.then(|| row.times(plan, &sides));
+        compared.add(&row.name, "", "", String::new(), times);
     }
     for (name, times) in archives_times(plan, &[&OURS, &OTHER]) {
         compared.add(&name, "", "", String::new(), Some(times));

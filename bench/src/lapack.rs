@@ -37,6 +37,7 @@ type Dtrevc3 = unsafe extern "C" fn(
     len: usize,
     len2: usize,
 );
+type Dlarfg = unsafe extern "C" fn(n: Int, alpha: &mut f64, x: *mut f64, incx: Int, tau: &mut f64);
 extern "C" {
     fn dlopen(path: *const c_char, flags: c_int) -> *mut c_void;
     fn dlsym(library: *mut c_void, name: *const c_char) -> *mut c_void;
@@ -49,6 +50,7 @@ const FLAGS: c_int = 2 | 8;
 pub struct Lapack {
     dtrexc: Dtrexc,
     dtrevc3: Dtrevc3,
+    dlarfg: Dlarfg,
 }
 
 const MOST: usize = 64;
@@ -71,11 +73,12 @@ impl Lapack {
                 place => Ok(place),
             }
         };
-        // The two types above are LAPACK's own.
+        // The types above are LAPACK's own.
         unsafe {
             Ok(Lapack {
                 dtrexc: std::mem::transmute::<*mut c_void, Dtrexc>(find("dtrexc_")?),
                 dtrevc3: std::mem::transmute::<*mut c_void, Dtrevc3>(find("dtrevc3_")?),
+                dlarfg: std::mem::transmute::<*mut c_void, Dlarfg>(find("dlarfg_")?),
             })
         }
     }
@@ -132,5 +135,10 @@ impl Lapack {
             );
         }
         info
+    }
+
+    /// A reflection. LAPACK's head and tail are ours up to rounding, its tau is one over ours.
+    pub fn reflect(&self, head: &mut f64, tail: &mut [f64], tau: &mut f64) {
+        unsafe { (self.dlarfg)(&(tail.len() as c_int + 1), head, tail.as_mut_ptr(), &1, tau) }
     }
 }

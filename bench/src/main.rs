@@ -18,6 +18,7 @@ mod opaque;
 #[allow(dead_code)]
 #[path = "../../oracle/src/progress.rs"]
 mod progress;
+mod reflections;
 mod report;
 #[allow(dead_code)]
 #[path = "../../oracle/src/generate/rng.rs"]

@@ -49,11 +49,14 @@ pub struct Report {
     left_out: f64,
     /// The ratios of the rows that time the same call on the same form.
     same: Vec<(String, Vec<Vec<f64>>)>,
+    /// The names of rows that ours refuses.
+    refused: Vec<String>,
 }
 
 impl Report {
     pub fn new() -> Report {
-        Report { rows: Vec::new(), asked: 0, met: 0, timed: 0, wide: 0, shared: 0, left_out: 0.0, same: Vec::new() }
+        let (rows, same, refused) = (Vec::new(), Vec::new(), Vec::new());
+        Report { rows, asked: 0, met: 0, timed: 0, wide: 0, shared: 0, left_out: 0.0, same, refused }
     }
 
     /// Counts a row, and what is to be said of its times.
@@ -62,6 +65,11 @@ impl Report {
         self.wide += usize::from(ratios.iter().any(|x| x.wide()));
         self.shared += usize::from(times.shared);
         self.left_out += times.left_out;
+    }
+
+    /// Names a row that is not timed, as ours refuses it.
+    pub fn refuse(&mut self, name: String) {
+        self.refused.push(name);
     }
 
     /// Keeps the ratios by what is called.
@@ -143,6 +151,9 @@ impl Report {
                 "{count} rows time a call that another row times too: their ratios lie at most {:.1} % apart.\n",
                 100.0 * apart
             );
+        }
+        if !self.refused.is_empty() {
+            println!("Not timed, as ours refuses them: {}.\n", self.refused.join("; "));
         }
     }
 }

@@ -123,17 +123,17 @@ impl MoveRow {
 }
 
 /// Numbers from the beginning of a cache line on, so that every row finds them alike.
-struct Lines {
+pub struct Lines {
     all: Vec<f64>,
     len: usize,
 }
 
 impl Lines {
-    fn new(len: usize) -> Lines {
+    pub fn new(len: usize) -> Lines {
         Lines { all: vec![0.0; len + 8], len }
     }
 
-    fn numbers(&mut self) -> &mut [f64] {
+    pub fn numbers(&mut self) -> &mut [f64] {
         let skipped = (64 - self.all.as_ptr() as usize % 64) / 8 % 8;
         &mut self.all[skipped..skipped + self.len]
     }

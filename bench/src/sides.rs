@@ -5,7 +5,7 @@ use crate::archive::{Archive, PLACES};
 use crate::arith;
 use crate::lapack::Lapack;
 use crate::shim::*;
-use crate::taken::{eigen, evd};
+use crate::taken::{eigen, evd, householder};
 
 #[derive(Clone, Copy)]
 pub enum Side {
@@ -52,6 +52,19 @@ impl Side {
             Side::Lapack(_) => unreachable!("LAPACK has no routine that only reads the values off a form"),
         }
     }
+
+    /// The reflection of a column, its head first; hands back 0 unless it is refused. The further results
+    /// are tau, head_with_beta_inv and the norm; LAPACK has only a tau.
+    #[inline(always)]
+    pub fn reflect(&self, column: &mut [f64], further: &mut [f64; 3]) -> usize {
+        let (head, tail) = column.split_first_mut().unwrap();
+        match self {
+            Side::Archive(copies, place) => return copies[*place].reflect(head, tail, further),
+            Side::Rust => rust_reflect(head, tail, further),
+            Side::Lapack(lapack) => lapack.reflect(head, tail, &mut further[0]),
+        }
+        0
+    }
 }
 
 /// Where a side writes values: an archive in two lists, the Rust in one.
@@ -97,6 +110,13 @@ fn rust_values(n: usize, ld: usize, t: &[f64], values: &mut [Complex<f64>]) -> u
     let (form, mut unused) = (MatRef::with_stride(t, n, n, ld), []);
     eigen::block_values(form, MatRef::from_slice(&[], 0, n), values, MatMut::from_slice(&mut unused, 0, n));
     0
+}
+
+#[inline(never)]
+fn rust_reflect(head: &mut f64, tail: &mut [f64], further: &mut [f64; 3]) {
+    let rows = tail.len();
+    let info = householder::make_householder_in_place(head, MatMut::from_slice(tail, rows, 1).col_mut(0));
+    *further = [info.tau, info.head_with_beta_inv, info.norm];
 }
 
 #[inline(never)]

@@ -1,8 +1,9 @@
-//! Times moves, vectors and values, and prints them as ratios.
+//! Times moves, vectors, values and reflections, and prints them as ratios.
 
 use crate::archive::OURS;
 use crate::arithmetic::arithmetic;
 use crate::forms::Form;
+use crate::reflections::ReflectionRow;
 use crate::report::{NAMES, Report, middle_time, shown};
 use crate::rows::{FormRow, MoveRow, Plan, progress};
 use crate::sides::{Side, Values};
@@ -20,6 +21,7 @@ pub fn run(plan: &Plan, sides: &Sides) {
         ("Moves", moves(plan, sides, report)),
         ("Vectors", vectors(plan, sides, report)),
         ("Values (LAPACK has no routine that only reads the values off a form)", values(plan, sides, report)),
+        ("Reflections", reflections(plan, sides, report)),
         ("Root and modulus", arithmetic(plan, report)),
     ];
     progress("");
@@ -71,7 +73,6 @@ fn check_moves(sides: &Sides, row: &MoveRow) -> usize {
         assert!(number == 0 && out[0] == to && out[2] == 0, "our move {from} to {to}: {number} {out:?}");
         swaps += out[1];
     }
-    let bits = |x: &[f64]| x.iter().map(|x| x.to_bits()).collect::<Vec<u64>>();
     for (side, name) in sides.all.iter().zip(NAMES).skip(1) {
         let (mut t2, mut u2) = (form.t.clone(), form.factor(*with_factor));
         for &(from, to) in moves {
@@ -83,6 +84,10 @@ fn check_moves(sides: &Sides, row: &MoveRow) -> usize {
         }
     }
     swaps
+}
+
+fn bits(x: &[f64]) -> Vec<u64> {
+    x.iter().map(|x| x.to_bits()).collect()
 }
 
 fn vectors(plan: &Plan, sides: &Sides, report: &mut Report) -> Table {
@@ -126,4 +131,39 @@ fn values(plan: &Plan, sides: &Sides, report: &mut Report) -> Table {
         table.add([row.what].into_iter().chain(cells).collect());
     }
     table
+}
+
+fn reflections(plan: &Plan, sides: &Sides, report: &mut Report) -> Table {
+    let heads = ["", "ours, ns", "ours/Rust", "ours/LAPACK", "ours/OpenBLAS"];
+    let mut table = Table::new(plan.markdown, &heads);
+    for row in ReflectionRow::all(plan) {
+        if !check_reflections(sides, &row) {
+            report.refuse(row.name);
+            continue;
+        }
+        let times = row.times(plan, &sides.all);
+        let ratios: Vec<Spread> = (1..4).map(|k| times.ratio(0, k, plan.least)).collect();
+        report.note(&ratios, &times);
+        let cells = [row.name, middle_time(&times, 0)];
+        table.add(cells.into_iter().chain(ratios.into_iter().map(shown)).collect());
+    }
+    table
+}
+
+/// Ours are as the Rust's in every bit, LAPACK's heads and tails near them. False where ours refuses them.
+fn check_reflections(sides: &Sides, row: &ReflectionRow) -> bool {
+    let (columns, further) = match row.done_by(&sides.all[0]) {
+        Some(done) => done,
+        None => return false,
+    };
+    for (side, name) in sides.all.iter().zip(NAMES).skip(1) {
+        let (columns2, further2) = row.done_by(side).expect("only archives refuse");
+        match side {
+            Side::Rust => {
+                assert!(bits(&columns) == bits(&columns2) && bits(&further) == bits(&further2), "the Rust differs")
+            }
+            _ => assert!(columns.iter().zip(&columns2).all(|(x, y)| (x - y).abs() < 1e-10), "{name} differs"),
+        }
+    }
+    true
 }
