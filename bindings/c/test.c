@@ -114,9 +114,12 @@ static void rotations(void)
 
 static void reflections(void)
 {
-    double tail[4] = {1, 1, 1, 1}, head = 9, tau = 9, inv = 9, norm = 9;
-    CHECK(vx_make_householder_in_place(1, tail, 4, &head, &tau, &inv, &norm) == VX_TAIL_LENGTH);
-    CHECK(tail[0] == 1 && tail[1] == 1 && tail[2] == 1 && tail[3] == 1);
+    double tail[66], head = 9, tau = 9, inv = 9, norm = 9;
+    for (size_t i = 0; i < 66; i++)
+        tail[i] = 1;
+    CHECK(vx_make_householder_in_place(1, tail, 65, &head, &tau, &inv, &norm) == VX_TAIL_LENGTH);
+    for (size_t i = 0; i < 66; i++)
+        CHECK(tail[i] == 1);
     SAME(head, 0.0);
     SAME(tau, 0.0);
     SAME(inv, 0.0);
@@ -125,6 +128,25 @@ static void reflections(void)
 
     CHECK(vx_make_householder_in_place(1, tail, 3, &head, &tau, &inv, &norm) == VX_DONE);
     CHECK(tail[0] != 1 && tail[3] == 1);
+
+    /* Every number of a tail of 64 is multiplied by the same one, and none behind it. */
+    for (size_t i = 0; i < 66; i++)
+        tail[i] = (double)i - 20;
+    CHECK(vx_make_householder_in_place(-3, tail, 64, &head, &tau, &inv, &norm) == VX_DONE);
+    for (size_t i = 0; i < 64; i++)
+        SAME(tail[i], ((double)i - 20) * inv);
+    CHECK(tail[64] == 44 && tail[65] == 45);
+
+    /* The norm from left to right: behind a 1 each of the others vanishes, before it they do not. */
+    double falling[64] = {1}, rising[64];
+    for (size_t i = 1; i < 64; i++)
+        falling[i] = 0x1p-27;
+    for (size_t i = 0; i < 64; i++)
+        rising[i] = falling[63 - i];
+    CHECK(vx_make_householder_in_place(0, falling, 64, &head, &tau, &inv, &norm) == VX_DONE);
+    SAME(norm, 1.0);
+    CHECK(vx_make_householder_in_place(0, rising, 64, &head, &tau, &inv, &norm) == VX_DONE);
+    CHECK(norm > 1);
 
     /* The sign is the head times the rounded reciprocal of its magnitude: for 49 it is not 1. */
     tail[0] = 1;

@@ -50,7 +50,7 @@ enum {
     VX_BLOCK_SIZE = 8,    /* n1 or n2 of an exchange is not 1 or 2 */
     VX_PAST_END = 9,      /* the rows of an exchange, j0 + n1 + n2, run past n */
     VX_ACROSS = 10,       /* a 2-block lies across an exchange's upper edge, middle or lower edge */
-    VX_TAIL_LENGTH = 11   /* a reflection's tail has not 1, 2 or 3 numbers */
+    VX_TAIL_LENGTH = 11   /* a reflection's tail has not 1 to 64 numbers */
 };
 
 /* The sentence for a number, without a full stop: a constant text, never NULL. 1 is what the
@@ -85,7 +85,7 @@ static inline const char *vx_message(size_t number)
     case VX_ACROSS:
         return "a 2-block lies across the upper edge, the middle or the lower edge of the exchange";
     case VX_TAIL_LENGTH:
-        return "the tail of a reflection has not 1, 2 or 3 numbers";
+        return "the tail of a reflection has not 1 to 64 numbers";
     default:
         return "a number that this header does not know";
     }
@@ -158,8 +158,9 @@ void vx_adjoint(double c, double s, double *new_c, double *new_s);
  * Results: c * x + s * y; c * y - s * x. */
 void vx_apply(double c, double s, double x, double y, double *new_x, double *new_y);
 
-/* The reflection that takes the head and the tail to a new head and zeros. The tail, 1 to 3 places,
- * becomes the reflection's own; if its norm is below 2^-1022 it stays, and tau is infinite.
+/* The reflection that takes the head and the tail to a new head and zeros. The tail, 1 to 64
+ * places, is multiplied by head_with_beta_inv and becomes the reflection's own; if its norm, from left
+ * to right, is below 2^-1022 it stays, and tau is infinite.
  * Results: the new head; tau; head_with_beta_inv; the norm of head and tail.
  * Gives 0 or 11. */
 size_t vx_make_householder_in_place(double head, double *tail, size_t tail_len, double *new_head,

@@ -99,8 +99,12 @@ class Worked(Case):
         self.assertNotEqual(sign, 1)
         self.same(r.head, -(sign * r.norm))
         self.same(tail[0], r.head_with_beta_inv)
-        vx.make_householder_in_place(1, floats([1, 1, 1]))
-        for length in (0, 4):
+        for length in range(1, 65):
+            tail = floats([i - 20.5 for i in range(length)])
+            r = vx.make_householder_in_place(-3, tail)
+            for i, x in enumerate(tail):
+                self.same(x, (i - 20.5) * r.head_with_beta_inv)
+        for length in (0, 65):
             self.refused(11, lambda tail: vx.make_householder_in_place(1, tail), floats([1] * length))
 
     def test_blocks_of_two(self):
@@ -257,6 +261,22 @@ class Worked(Case):
         self.assertEqual((u @ t @ u.T).tolist(), numpy.diag([1.0, 2.0, 3.0]).tolist())
         flat = numpy.array(TURN)
         self.assertEqual(vx.reorder_schur(flat, None, 1, 0), (0, 0, 0))
+
+    @unittest.skipUnless(numpy, "NumPy is not there")
+    def test_column_reflected_in_place(self):
+        """A column of an array in Fortran order: I - v v' / tau takes it to (head, 0 ..)."""
+        a = numpy.array([[(5 * i + 3 * j) % 7 - 2.5 for j in range(3)] for i in range(65)], order="F")
+        before = a.copy()
+        r = vx.make_householder_in_place(a[0, 1], a[1:, 1])
+        v = numpy.concatenate(([1.0], a[1:, 1]))
+        x = before[:, 1]
+        y = x - v * (v @ x) / r.tau
+        self.assertLess(abs(y[0] - r.head), 1e-13)
+        self.assertLess(abs(y[1:]).max(), 1e-13)
+        a[1:, 1] = before[1:, 1]
+        self.assertEqual(a.tolist(), before.tolist())
+        with self.assertRaisesRegex(TypeError, "without gaps"):
+            vx.make_householder_in_place(1, numpy.ones((4, 4))[:, 1])
 
     @unittest.skipUnless(numpy, "NumPy is not there")
     def test_numpy_that_is_read(self):

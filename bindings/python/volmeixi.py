@@ -105,7 +105,7 @@ _MESSAGES = {
     8: "a block size of the exchange is not 1 or 2",
     9: "the rows of the exchange run past the last row of the form",
     10: "a 2-block lies across the upper edge, the middle or the lower edge of the exchange",
-    11: "the tail of a reflection has not 1, 2 or 3 numbers",
+    11: "the tail of a reflection has not 1 to 64 numbers",
 }
 
 
@@ -577,10 +577,10 @@ def apply(rot, x, y):
 
 
 def make_householder_in_place(head, tail):
-    """The reflection that takes head and tail, 1 to 3 numbers, to a new head and zeros.
+    """The reflection that takes head and tail, 1 to 64 numbers, to a new head and zeros.
 
-    The tail becomes the reflection's own; if its norm is below 2**-1022 it stays, and tau is
-    infinite. Gives Reflection.
+    The tail is multiplied by head_with_beta_inv and becomes the reflection's own; if its norm,
+    from left to right, is below 2**-1022 it stays, and tau is infinite. Gives Reflection.
     """
     tail = _lent(tail)
     if len(tail.shape) != 1:

@@ -28,7 +28,7 @@ void dtrevc3_(const char *side, const char *howmny, int *select, const int *n, c
               double *vl, const int *ldvl, double *vr, const int *ldvr, const int *mm, int *m, double *work,
               const int *lwork, int *info, long, long);
 
-enum { MOST = 32 };
+enum { MOST = 32, LONGEST = 64 };
 
 // ---- printing
 
@@ -182,18 +182,35 @@ static void rotation(double p, double q) {
     named("dlartg", "c s r", (double[]){c, s, r});
 }
 
-static void reflection(double head, int len, double a, double b, double c) {
-    double tail[3] = {a, b, c}, theirs[3] = {a, b, c}, out[4], beta = head, tau;
+// Both reflections of one column; of the tail, at most three numbers are named.
+static void reflect_both(double head, int len, const double *tail, const char *names) {
+    double us[LONGEST] = {0}, them[LONGEST] = {0}, out[4], beta = head, tau;
     int n = len + 1, step = 1;
-    ours_reflection(head, tail, len, out);
-    dlarfg_(&n, &beta, theirs, &step, &tau);
+    memcpy(us, tail, len * sizeof *tail), memcpy(them, tail, len * sizeof *tail);
+    ours_reflection(head, us, len, out);
+    dlarfg_(&n, &beta, them, &step, &tau);
+    named("ours", names, (double[]){out[0], out[1], us[0], us[1], us[2]});
+    named("dlarfg", names, (double[]){beta, tau, them[0], them[1], them[2]});
+}
+
+static void reflection(double head, int len, double a, double b, double c) {
+    double tail[3] = {a, b, c};
     printf("reflection of head %s, tail", number(head));
     for (int i = 0; i < len; i++)
-        printf(" %s", number((double[]){a, b, c}[i]));
+        printf(" %s", number(tail[i]));
     printf("\n");
-    const char *names = len > 1 ? "head tau v0 v1 v2" : "head tau v0";
-    named("ours", names, (double[]){out[0], out[1], tail[0], tail[1], tail[2]});
-    named("dlarfg", names, (double[]){beta, tau, theirs[0], theirs[1], theirs[2]});
+    reflect_both(head, len, tail, len > 1 ? "head tau v0 v1 v2" : "head tau v0");
+}
+
+// A 1 before or behind so many times x.
+static void reflection_beside_one(int first, int times, double x) {
+    double tail[LONGEST];
+    for (int i = 0; i <= times; i++)
+        tail[i] = i == (first ? 0 : times) ? 1 : x;
+    printf(first ? "reflection of head 0, tail 1 and then %d times %s\n"
+                 : "reflection of head 0, tail %d times %s and then 1\n",
+           times, number(x));
+    reflect_both(0, times + 1, tail, "head tau v0 v1");
 }
 
 // ---- blocks of two rows
@@ -417,6 +434,8 @@ int main(int argc, char **argv) {
     reflection(49, 1, 1, 0, 0);
     reflection(2, 1, 3, 0, 0);
     reflection(0, 3, 1, 1, 1);
+    reflection_beside_one(1, 63, 0x1p-26);
+    reflection_beside_one(0, 63, 0x1p-26);
     reflection(-0.0, 1, 1, 0, 0);
     reflection(1, 1, 0x1p-1023, 0, 0);
     reflection(0x1p-1023, 1, 0x1p-1022, 0, 0);

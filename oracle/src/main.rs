@@ -12,6 +12,7 @@ mod picked;
 mod picked_forms;
 mod picked_moduli;
 mod picked_strides;
+mod picked_tails;
 mod progress;
 mod record;
 mod refuse;

@@ -3,6 +3,7 @@
 use crate::generate::floats::next_up;
 use crate::picked_forms;
 use crate::picked_moduli;
+use crate::picked_tails;
 use crate::record::Record;
 
 pub const ODD: [f64; 3] = [f64::NAN, f64::INFINITY, f64::NEG_INFINITY];
@@ -19,7 +20,7 @@ pub fn picked(call: &'static str) -> Vec<Record> {
 
 /// Cases that were chosen after the file was first drawn.
 pub fn later(call: &'static str) -> Vec<Record> {
-    [picked_forms::later(call), picked_moduli::later(call)].concat()
+    [picked_forms::later(call), picked_moduli::later(call), picked_tails::later(call)].concat()
 }
 
 fn standardise(call: &'static str, [a, b, c, d]: [f64; 4]) -> Record {

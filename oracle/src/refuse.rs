@@ -7,6 +7,7 @@ use crate::stride;
 pub type Passed = Result<(), usize>;
 
 pub const MOST_ROWS: usize = 64;
+pub const LONGEST_TAIL: usize = 64;
 
 fn line(number: usize, applies: bool) -> Passed {
     if applies { Err(number) } else { Ok(()) }
@@ -82,7 +83,7 @@ pub fn column(n: usize, v: &[f64], col: usize) -> Passed {
 }
 
 pub fn reflection(tail: &[f64]) -> Passed {
-    line(11, !matches!(tail.len(), 1..=3))
+    line(11, !matches!(tail.len(), 1..=LONGEST_TAIL))
 }
 
 /// Lines 2, 17, 3 and 4 on the buffers with a stride that a call is given; what comes after them

@@ -1,6 +1,8 @@
 //! Counts over many cases: how many, how many of each answer, how many split or declined, of
-//! exchanges how many counted so many swaps, and which strides and numbers beyond the corners there were.
+//! exchanges how many counted so many swaps, which strides and numbers beyond the corners there were, and
+//! which tails of reflections.
 
+use crate::generate::tails;
 use crate::note::Notes;
 use crate::record::{Record, Value};
 use crate::stride;
@@ -15,7 +17,7 @@ pub struct Tally {
     pub declined: u64,
     /// Accepted exchanges by their swaps.
     pub exchanges: BTreeMap<usize, u64>,
-    /// Cases with a stride by what `stride::classes` tells.
+    /// Cases with a stride by what `stride::classes` tells, of reflections what `tails::classes` does.
     pub classes: BTreeMap<&'static str, u64>,
 }
 
@@ -30,10 +32,12 @@ impl Tally {
                 *self.exchanges.entry(notes.swaps).or_default() += 1;
             }
         }
-        if stride::taken_by(case.call) {
-            let classes = stride::classes(case, answer);
-            classes.into_iter().for_each(|class| *self.classes.entry(class).or_default() += 1);
-        }
+        let classes = match case.call {
+            "make_householder_in_place" => tails::classes(case, answer),
+            call if stride::taken_by(call) => stride::classes(case, answer),
+            _ => Vec::new(),
+        };
+        classes.into_iter().for_each(|class| *self.classes.entry(class).or_default() += 1);
     }
 }
 

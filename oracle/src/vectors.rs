@@ -1,6 +1,6 @@
 //! Stored vectors for programs that replay them without the Rust: `NAME INDEX WORD ...`, every
 //! number a word of 16 hexadecimal digits, single spaces between, the given numbers first and the
-//! expected ones after them, always the same count for a call. README.md lists the words.
+//! expected ones after them. README.md lists the words.
 
 use crate::calls;
 use crate::fault;
@@ -172,10 +172,11 @@ fn on_buffers(case: &Record, answer: &Record) -> Vec<u64> {
     words
 }
 
-/// Turned away, the four results are zero words.
+/// A longer tail has as many places as numbers. Turned away, the four results are zero words.
 fn reflection(case: &Record, answer: &Record) -> Vec<u64> {
-    let given =
-        [vec![case.l("tail").len() as u64, case.f("head").to_bits()], padded(case.l("tail"), TAIL_PLACES)].concat();
+    let tail = case.l("tail");
+    let places = tail.len().max(TAIL_PLACES);
+    let given = [vec![tail.len() as u64, case.f("head").to_bits()], padded(tail, places)].concat();
     let results: Vec<u64> = floats(answer).collect();
-    [given, vec![answer.n("answer") as u64], results, padded(answer.l("tail"), TAIL_PLACES)].concat()
+    [given, vec![answer.n("answer") as u64], results, padded(answer.l("tail"), places)].concat()
 }

@@ -3,6 +3,8 @@
 use crate::calls;
 use crate::record::Record;
 use crate::sheet;
+use crate::shim::MatMut;
+use crate::taken::householder;
 
 fn words(numbers: &[f64]) -> String {
     let words: Vec<String> = numbers.iter().map(|x| format!("{:016x}", x.to_bits())).collect();
@@ -155,7 +157,18 @@ fn numbers_of_the_lines() {
     let tail = |len: usize| {
         answer(&format!("make_householder_in_place head={} tail={}", words(&[1.0]), words(&vec![1.0; len]))).n("answer")
     };
-    assert_eq!([tail(0), tail(1), tail(3), tail(4)], [11, 0, 0, 11]);
+    assert_eq!([tail(0), tail(1), tail(64), tail(65)], [11, 0, 0, 11]);
+}
+
+/// The Rust itself has no line 11 (docs/DIFFERENCES.md).
+#[test]
+fn the_rust_takes_any_tail() {
+    for mut tail in [vec![], vec![0.0; 65]] {
+        let (mut head, rows) = (1.0, tail.len());
+        let info = householder::make_householder_in_place(&mut head, MatMut::from_slice(&mut tail, rows, 1).col_mut(0));
+        let results = [head, info.tau, info.head_with_beta_inv, info.norm];
+        assert_eq!(results, [1.0, f64::INFINITY, f64::INFINITY, 1.0]);
+    }
 }
 
 #[test]

@@ -40,7 +40,7 @@ pub enum Refusal {
     PastEnd,
     /// 10: a 2-block lies across an edge of an exchange.
     Across,
-    /// 11: a reflection's tail has not 1, 2 or 3 numbers.
+    /// 11: a reflection's tail has not 1 to 64 numbers.
     TailLength,
     /// Any other number: the archive is newer than this crate.
     Unknown(usize),
@@ -97,7 +97,7 @@ impl fmt::Display for Refusal {
             BlockSize => "a block size of the exchange is not 1 or 2",
             PastEnd => "the rows of the exchange run past the last row of the form",
             Across => "a 2-block lies across the upper edge, the middle or the lower edge of the exchange",
-            TailLength => "the tail of a reflection has not 1, 2 or 3 numbers",
+            TailLength => "the tail of a reflection has not 1 to 64 numbers",
             Unknown(number) => return write!(f, "turned away with number {}, which is not known here", number),
         })
     }

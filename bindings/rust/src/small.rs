@@ -67,9 +67,9 @@ pub fn apply(rot: JacobiRotation, x: f64, y: f64) -> (f64, f64) {
     (new_x, new_y)
 }
 
-/// The reflection that takes the head and the tail to a new head and zeros. The tail, 1 to 3
-/// numbers, becomes the reflection's own; if its norm is below 2^-1022 it stays, and tau is
-/// infinite.
+/// The reflection that takes the head and the tail to a new head and zeros. The tail, 1 to 64
+/// numbers, is multiplied by head_with_beta_inv and becomes the reflection's own; if its norm, from
+/// left to right, is below 2^-1022 it stays, and tau is infinite.
 ///
 /// Refused by [`Refusal::TailLength`].
 ///
@@ -79,6 +79,9 @@ pub fn apply(rot: JacobiRotation, x: f64, y: f64) -> (f64, f64) {
 /// assert_eq!((r.head, r.tau), (2.0, f64::INFINITY));
 /// let r = volmeixi::make_householder_in_place(0.0, &mut tail)?;
 /// assert_eq!((r.head, r.tau, r.norm, tail), (-4.0, 1.0, 4.0, [1.0]));
+/// let mut tail = [1.0; 64];
+/// let r = volmeixi::make_householder_in_place(0.0, &mut tail)?;
+/// assert_eq!(tail, [r.head_with_beta_inv; 64]);
 /// # Ok::<(), volmeixi::Refusal>(())
 /// ```
 pub fn make_householder_in_place(head: f64, tail: &mut [f64]) -> Result<Reflection, Refusal> {

@@ -84,12 +84,15 @@ fn a_sign_that_is_not_one() {
 
 #[test]
 fn tails() {
-    for len in 1..=3 {
-        assert!(make_householder_in_place(1.0, &mut vec![1.0; len]).is_ok());
+    for len in 1..=64 {
+        let given: Vec<f64> = (0..len).map(|i| i as f64 - 20.5).collect();
+        let mut tail = given.clone();
+        let r = make_householder_in_place(-3.0, &mut tail).unwrap();
+        tail.iter().zip(given).for_each(|(x, y)| same(*x, y * r.head_with_beta_inv));
     }
-    let mut tail = [1.0; 4];
+    let mut tail = [1.0; 65];
     assert_eq!(make_householder_in_place(1.0, &mut tail), Err(Refusal::TailLength));
-    assert_eq!(tail, [1.0; 4]);
+    assert_eq!(tail, [1.0; 65]);
     assert_eq!(make_householder_in_place(1.0, &mut []), Err(Refusal::TailLength));
 }
 

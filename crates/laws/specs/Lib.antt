@@ -4,3 +4,4 @@ pub mod InOrder
 pub mod HalfDigits
 pub mod Cut
 pub mod ModulusNearest
+pub mod Reflections

@@ -2,6 +2,7 @@
 ghost use mathlib.Core.Path.{_≡_};
 ghost use mathlib.Core.List.{map};
 ghost use lib.Ieee.{Float, binary64, mul};
+ghost use Rattle.model.specs.Arith as Arith;
 ghost use Rattle.model.specs.Householder as Householder;
 ghost use Rattle.linalg.specs.View.{reflection};
 use arith::norm::hypot;
@@ -28,10 +29,10 @@ fn flushed(head: f64) -> f64
 }
 
 // The head times the rounded reciprocal of its magnitude, and 1 where that is zero.
-fn sign_of(head: f64) -> f64
+fn sign_of(head: f64, head_norm: f64) -> f64
+    requires { ⌜ «head_norm» ≡ Arith.abs head ⌝ }
     ensures { λ r. ⌜ r ≡ Householder.signOf binary64 head ⌝ }
 {
-    let head_norm = abs(head);
     if head_norm != 0.0 {
         head * recip(head_norm)
     } else {
@@ -54,8 +55,9 @@ fn scale_tail(tail: &mut [f64], k: f64)
 fn reflect_tail(head: f64, tail_norm: f64, tail: &mut [f64]) -> Reflection
     ensures { λ r. ⌜ reflection r (now (tail .exit)) ≡ Householder.reflectTail binary64 head «tail_norm» (now (tail .entry)) ⌝ }
 {
-    let norm = hypot(abs(head), tail_norm);
-    let signed_norm = sign_of(head) * norm;
+    let head_norm = abs(head);
+    let norm = hypot(head_norm, tail_norm);
+    let signed_norm = sign_of(head, head_norm) * norm;
     let head_with_beta_inv = recip(head + signed_norm);
     scale_tail(&mut *tail, head_with_beta_inv);
     Reflection {
@@ -85,18 +87,18 @@ fn make_householder(head: f64, tail: &mut [f64]) -> Reflection
     reflect_tail(head, tail_norm, tail)
 }
 
-// Whether a tail has 1 to 3 numbers.
+// Whether a tail has 1 to 64 numbers.
 fn tail_fits(len: usize) -> bool
     ensures { λ r. ⌜ r ≡ Householder.tailFits len ⌝ }
 {
     if len < 1 {
         return false;
     }
-    len <= 3
+    len <= 64
 }
 
 // The reflection that takes the head and the tail to (head, 0 ..): the new head, tau and the
-// rest in the answer, and the tail in place. A tail that has not 1 to 3 numbers is turned away.
+// rest in the answer, and the tail in place. A tail that has not 1 to 64 numbers is turned away.
 pub fn make_householder_in_place(head: f64, tail: &mut [f64]) -> Reflection
     ensures { λ r. ⌜ reflection r (now (tail .exit)) ≡ Householder.makeHouseholderInPlace binary64 head (now (tail .entry)) ⌝ }
 {

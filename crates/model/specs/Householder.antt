@@ -53,13 +53,15 @@ unfolding normL2 flushed reflectNothing reflectTail
 makeHouseholder f head tail =
     cond (lt (normL2 f tail) (minPositiveOf f)) (reflectNothing f (flushed f head) tail) (reflectTail f (flushed f head) (normL2 f tail) tail)
 
--- line 11 of document 01's list does not apply
+-- line 11 of the list does not apply: the tail has 1 to 64 numbers
 unfoldable pub tailFits : ℕ → Bool
-tailFits k = leb 1 k && leb k 3
+tailFits k = leb 1 k && leb k 64
 
--- the call: a tail of any other length is turned away, and stays
+-- what a call that is turned away gives: its number, zeros, and the tail as it came
+unfoldable pub tailTurnedAway : Format → List Float → Reflection
+tailTurnedAway f tail = record { answer = 11; head = zeroOf f; tau = zeroOf f; headWithBetaInv = zeroOf f; norm = zeroOf f; tail = tail }
+
+-- the call
 unfoldable pub makeHouseholderInPlace : Format → Float → List Float → Reflection
-unfolding tailFits makeHouseholder
-makeHouseholderInPlace f head tail =
-    cond (tailFits (length tail)) (makeHouseholder f head tail)
-    (record { answer = 11; head = zeroOf f; tau = zeroOf f; headWithBetaInv = zeroOf f; norm = zeroOf f; tail = tail })
+unfolding tailFits makeHouseholder tailTurnedAway
+makeHouseholderInPlace f head tail = cond (tailFits (length tail)) (makeHouseholder f head tail) (tailTurnedAway f tail)

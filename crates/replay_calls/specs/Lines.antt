@@ -1,6 +1,6 @@
 -- What a line of each call shows, by the call's definition in model. Definitions only. Assumes nothing.
-use Prim.Native.Nat.{ℕ, _+_}
-use mathlib.Core.Bool.{Bool, _&&_}
+use Prim.Native.Nat.{ℕ, _+_, _*_}
+use mathlib.Core.Bool.{Bool, _&&_, cond}
 use mathlib.Core.List.{List, [], _∷_, _++_}
 use lib.Dec.{eqb, leb}
 use lib.ListN.{length, getD, take, drop}
@@ -65,14 +65,19 @@ adjoint w = let j = Jacobi.adjoint (rotation w) in judged (eqb (length w) 4) (is
 abbrev pub apply : List ℕ → Outcome
 apply w = let p = Jacobi.applyRight binary64 (rotation w) (at w 2) (at w 3) in judged (eqb (length w) 6) (is w 4 (p .x) && is w 5 (p .y))
 
+-- the places of a tail of n numbers: 5, or n if that is more
+unfoldable pub places : ℕ → ℕ
+places n = cond (leb n 5) 5 n
+
 abbrev pub makeHouseholderInPlace : List ℕ → Outcome
 makeHouseholderInPlace w =
     let n = getD w 0 0 in
-    let t = from w 2 5 in
+    let p = places n in
+    let t = from w 2 p in
     let r = Householder.makeHouseholderInPlace binary64 (at w 1) (take n t) in
-    judged (eqb (length w) 17 && leb n 5)
-    (eqb (r .answer) (getD w 7 0) && is w 8 (r .head) && is w 9 (r .tau) && is w 10 (r .headWithBetaInv) && is w 11 (r .norm)
-    && areWords (r .tail ++ drop n t) (take 5 (drop 12 w)))
+    judged (leb n 66 && eqb (length w) (7 + 2 * p))
+    (eqb (r .answer) (getD w (2 + p) 0) && is w (3 + p) (r .head) && is w (4 + p) (r .tau) && is w (5 + p) (r .headWithBetaInv) && is w (6 + p) (r .norm)
+    && areWords (r .tail ++ drop n t) (take p (drop (7 + p) w)))
 
 -- the numbers of a block and its values, as they stand in a line of lahqr_schur22
 unfoldable pub isBlock : List ℕ → Schur22.Block → Bool

@@ -1,6 +1,9 @@
 // One function for each call: it takes a line's words without the index, makes the call with the
 // given ones and compares what it gives with the rest. oracle/README.md lists the words.
 ghost use mathlib.Core.Path.{_≡_};
+ghost use Prim.Native.Nat.{_≤_};
+ghost use lib.Ieee.{binary64, ofBits};
+ghost use lib.ListN.{length, replicate};
 ghost use Rattle.replay_calls.specs.Lines as Lines;
 use bits::float::float_of;
 use bits::float::floats_of;
@@ -161,25 +164,44 @@ pub fn apply(w: &[u64]) -> Outcome
     judge(x & y)
 }
 
-// The length, the head, 5 places of the tail; the number, the four results, the 5 places.
+// The places of a tail of n numbers in a line: 5, or n if that is more.
+fn places(n: usize) -> usize
+    requires { ⌜ n ≤ 66 ⌝ }
+    ensures { λ r. ⌜ (r ≡ Lines.places n) × (5 ≤ r) × (n ≤ r) × (r ≤ 66) ⌝ }
+{
+    if n <= 5 { 5 } else { n }
+}
+
+// Room for a tail of 66 numbers, two more than a call takes.
+fn room() -> [f64; 66]
+    ensures { λ r. ⌜ (r ≡ replicate 66 (ofBits binary64 0)) × (66 ≡ length r) ⌝ }
+{
+    [0.0; 66]
+}
+
+// The length, the head, the places of the tail; the number, the four results, the places.
 pub fn make_householder_in_place(w: &[u64]) -> Outcome
     ensures { λ r. ⌜ r ≡ Lines.makeHouseholderInPlace (now (w .entry)) ⌝ }
 {
-    if w.len() != 17 {
+    if w.len() < 17 {
         return Outcome::Malformed;
     }
     let n = w[0] as usize;
-    if n > 5 {
+    if n > 66 {
         return Outcome::Malformed;
     }
-    let mut tail = [0.0; 5];
-    floats_of(&w[2..7], &mut tail);
+    let p = places(n);
+    if w.len() != 7 + 2 * p {
+        return Outcome::Malformed;
+    }
+    let mut tail = room();
+    floats_of(&w[2..2 + p], &mut tail[..p]);
     let r = linalg::householder::make_householder_in_place(float_of(w[1]), &mut tail[..n]);
-    let answer = r.answer as u64 == w[7];
-    let head = is_word(r.head, w[8]);
-    let tau = is_word(r.tau, w[9]);
-    let inv = is_word(r.head_with_beta_inv, w[10]);
-    let norm = is_word(r.norm, w[11]);
-    let rest = are_words(&tail, &w[12..17]);
+    let answer = r.answer as u64 == w[2 + p];
+    let head = is_word(r.head, w[3 + p]);
+    let tau = is_word(r.tau, w[4 + p]);
+    let inv = is_word(r.head_with_beta_inv, w[5 + p]);
+    let norm = is_word(r.norm, w[6 + p]);
+    let rest = are_words(&tail[..p], &w[7 + p..7 + 2 * p]);
     judge(answer & head & tau & inv & norm & rest)
 }

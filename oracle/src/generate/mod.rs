@@ -7,6 +7,7 @@ pub mod moduli;
 pub mod rng;
 mod small;
 mod strides;
+pub mod tails;
 mod text;
 
 use crate::record::{Record, Value};
@@ -23,19 +24,25 @@ pub struct Sizes {
 
 pub const USUAL: Sizes = Sizes { least: 1, most: 12 };
 
-/// The case of a call with the given index; every second one of a call that takes moduli is drawn for
-/// them.
+/// The case of a call with the given index. Every second one of hypot is drawn for how it rounds; of
+/// calls on a list of numbers, whose norm is made of moduli, every third, and every third for its
+/// length and its places.
 pub fn case(call: &'static str, seed: u64, index: u64, sizes: Sizes) -> Record {
     let rng = &mut Rng::new(seed, call, index);
     match call {
-        "hypot" | "norm_l2" | "make_householder_in_place" if index % 2 == 1 => moduli::case(call, rng, index / 2),
-        "hypot" | "norm_l2" | "make_householder_in_place" => draw(rng, call, index / 2, sizes),
+        "hypot" if index % 2 == 1 => moduli::case(call, rng, index / 2),
+        "hypot" => draw(rng, call, index / 2, sizes),
+        "norm_l2" | "make_householder_in_place" => match index % 3 {
+            1 => moduli::case(call, rng, index / 3),
+            2 => tails::case(call, rng, index / 3),
+            _ => draw(rng, call, index / 3, sizes),
+        },
         _ => draw(rng, call, index, sizes),
     }
 }
 
 /// The same for the stored vectors, which pass over one case in 64 of a call with several results, and
-/// have none that is drawn for moduli: the file was first drawn so, and stays as it is.
+/// have none that is drawn for moduli or long lists: the file was first drawn so, and stays as it is.
 pub fn stored(call: &'static str, seed: u64, index: u64, sizes: Sizes) -> Option<Record> {
     let rng = &mut Rng::new(seed, call, index);
     let case = draw(rng, call, index, sizes);

@@ -28,7 +28,7 @@ unfolding normFrom
 next x i a b h e = rw (drop-cons x i nan h, add-one i, e)
 
 abbrev Inv-loop : tie.InvT-loop
-Inv-loop x norm₀ i₀ norm i = (i ≤ length x) × (normFrom binary64 norm (drop i x) ≡ normL2 binary64 x)
+Inv-loop x norm₀ i₀ norm i = (1 ≤ i) × (i ≤ length x) × (normFrom binary64 norm (drop i x) ≡ normL2 binary64 x)
 
 abbrev μ-loop : tie.MeasureT-loop
 μ-loop x norm₀ i₀ norm i = length x - i
@@ -43,7 +43,7 @@ abs-requires : tie.Need-abs-requires Inv-loop μ-loop
 abs-requires c κs = search needs
 
 loop-holds : tie.Need-loop-holds Inv-loop μ-loop
-loop-holds c = (search needs, first _ _ (search needs) (c .abs .ensures))
+loop-holds c = (search needs, search needs, first _ _ (search needs) (c .abs .ensures))
 
 mul-hypot : tie.Need-mul-hypot Inv-loop μ-loop
 mul-hypot c = search needs
@@ -63,11 +63,11 @@ loop-less c = search needs
 loop-again : tie.Need-loop-again Inv-loop μ-loop
 loop-again c =
     let l = c .before .before .before in
-    (search needs, next _ _ _ _ (c .before .before .loop-test .taken) (c .hypot .ensures) ∙ l .loop .inv .1)
+    (search needs, search needs, next _ _ _ _ (c .before .before .loop-test .taken) (c .hypot .ensures) ∙ l .loop .inv .2)
 
 returns-2 : tie.Need-returns-2 Inv-loop μ-loop
 unfolding normFrom
-returns-2 c = rw (drop-of-length-le _ (c .loop-test .left)) at (c .before .loop .inv .1)
+returns-2 c = rw (drop-of-length-le _ (c .loop-test .left)) at (c .before .loop .inv .2)
 
 pub norm-l2-spec : {M : Type 1} → statement M
 norm-l2-spec =

@@ -1,6 +1,6 @@
 -- `linalg::householder::make_householder_in_place` meets its contract. Assumes nothing.
 use borrow.Author.Needs.{needs}
-use Rattle.model.specs.Householder.{makeHouseholderInPlace}
+use Rattle.model.specs.Householder.{tailTurnedAway, makeHouseholderInPlace}
 use Rattle.linalg.proofs.householder.make_householder_in_place.Statement.{statement}
 use Rattle.linalg.proofs.householder.make_householder_in_place.Tie as tie
 
@@ -21,7 +21,7 @@ returns c =
     rw (← t .before .tail-fits .ensures, t .if1 .taken, m .make-householder .ensures)
 
 returns-2 : tie.Need-returns-2
-unfolding makeHouseholderInPlace
+unfolding tailTurnedAway makeHouseholderInPlace
 returns-2 c = rw (← c .before .tail-fits .ensures, c .if1 .left)
 
 pub make-householder-in-place-spec : {M : Type 1} → statement M
