@@ -2,7 +2,6 @@
 ghost use mathlib.Core.Path.{_≡_};
 ghost use mathlib.Core.List.{map};
 ghost use lib.Ieee.{Float, binary64, mul};
-ghost use Rattle.model.specs.Arith as Arith;
 ghost use Rattle.model.specs.Householder as Householder;
 ghost use Rattle.linalg.specs.View.{reflection};
 use arith::norm::hypot;
@@ -29,10 +28,10 @@ fn flushed(head: f64) -> f64
 }
 
 // The head times the rounded reciprocal of its magnitude, and 1 where that is zero.
-fn sign_of(head: f64, head_norm: f64) -> f64
-    requires { ⌜ «head_norm» ≡ Arith.abs head ⌝ }
+fn sign_of(head: f64) -> f64
     ensures { λ r. ⌜ r ≡ Householder.signOf binary64 head ⌝ }
 {
+    let head_norm = abs(head);
     if head_norm != 0.0 {
         head * recip(head_norm)
     } else {
@@ -55,9 +54,8 @@ fn scale_tail(tail: &mut [f64], k: f64)
 fn reflect_tail(head: f64, tail_norm: f64, tail: &mut [f64]) -> Reflection
     ensures { λ r. ⌜ reflection r (now (tail .exit)) ≡ Householder.reflectTail binary64 head «tail_norm» (now (tail .entry)) ⌝ }
 {
-    let head_norm = abs(head);
-    let norm = hypot(head_norm, tail_norm);
-    let signed_norm = sign_of(head, head_norm) * norm;
+    let norm = hypot(abs(head), tail_norm);
+    let signed_norm = sign_of(head) * norm;
     let head_with_beta_inv = recip(head + signed_norm);
     scale_tail(&mut *tail, head_with_beta_inv);
     Reflection {
