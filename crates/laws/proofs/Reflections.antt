@@ -1,10 +1,9 @@
 -- Tails of 1 to 64 numbers are answered by the one rule, all others turned away; the norm goes from left to right. Assumes nothing.
-use Prim.Native.Nat.{ℕ, _≤_}
+use Prim.Native.Nat.{_≤_}
 use native.Mathlib.Omega.{arith}
 use mathlib.Core.Path.{_≡_, refl}
-use mathlib.Core.Bool.{Bool, true, false, _&&_, cond}
+use mathlib.Core.Bool.{Bool, true, false, cond}
 use mathlib.Core.List.{List, [], _∷_, _++_}
-use lib.Dec.{leb}
 use lib.ListN.{length}
 use lib.Ieee.{Float, Format, lt}
 use borrow.Author.Tests.{le-leb, lt-leb}

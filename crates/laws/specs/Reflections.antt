@@ -1,5 +1,5 @@
 -- The claims of reflections of longer tails: which tails are taken and which are turned away, that tails of at most 3 numbers give what they gave when no longer one was taken, which numbers of a tail are multiplied, and that the norm goes from left to right. Definitions only: `longer-reflections` of proofs/Reflections.antt proves them. Assumes nothing.
-use Prim.Native.Nat.{ℕ, _≤_}
+use Prim.Native.Nat.{_≤_}
 use mathlib.Core.Path.{_≡_}
 use mathlib.Core.Bool.{true, false, _&&_, cond}
 use mathlib.Core.List.{List, [], _∷_, _++_, map}

@@ -1,5 +1,5 @@
 -- `replay_calls::calls::make_householder_in_place` meets its contract. Assumes nothing.
-use mathlib.Core.Path.{sym, _∙_}
+use mathlib.Core.Path.{sym}
 use mathlib.Core.Bool.{and-false}
 use native.Mathlib.Omega.{arith}
 use Prim.Native.Nat.{_+_, _*_}
