@@ -1,5 +1,4 @@
 -- Tails of 1 to 64 numbers are answered by the one rule, all others turned away; the norm goes from left to right. Assumes nothing.
-use Prim.Native.Nat.{_≤_}
 use native.Mathlib.Omega.{arith}
 use mathlib.Core.Path.{_≡_, refl}
 use mathlib.Core.Bool.{Bool, true, false, cond}
@@ -15,10 +14,6 @@ taken-fits : (tail : List Float) → Taken tail → tailFits (length tail) ≡ t
 unfolding tailFits
 taken-fits tail t = rw (le-leb 1 (length tail) (t .least), le-leb (length tail) 64 (t .most))
 
-rule : (f : Format) (head : Float) (tail : List Float) → Taken tail → makeHouseholderInPlace f head tail ≡ makeHouseholder f head tail
-unfolding makeHouseholderInPlace
-rule f head tail t = rw (taken-fits tail t)
-
 -- what holds of both holds of the one that is taken
 either : (P : Reflection → Type 0) (b : Bool) (x y : Reflection) → P x → P y → P (cond b x y)
 either P true x y p q = p
@@ -29,18 +24,6 @@ answered : (f : Format) (head : Float) (tail : List Float) → makeHouseholder f
 unfolding makeHouseholder reflectNothing reflectTail
 answered f head tail = either (λ (r : Reflection). r .answer ≡ 0) (lt (normL2 f tail) (minPositiveOf f)) _ _ refl refl
 
-too-long : (f : Format) (head : Float) (tail : List Float) → 65 ≤ length tail → makeHouseholderInPlace f head tail ≡ tailTurnedAway f tail
-unfolding makeHouseholderInPlace tailFits
-too-long f head tail h = rw (le-leb 1 (length tail) (omega (arith, h)), lt-leb (length tail) 64 h)
-
-as-before : (f : Format) (head : Float) (tail : List Float) → length tail ≤ 3 → makeHouseholderInPlace f head tail ≡ baseReflection f head tail
-unfolding makeHouseholderInPlace tailFits baseReflection
-as-before f head tail h = rw (le-leb (length tail) 64 (omega (arith, h)), le-leb (length tail) 3 h)
-
-stays : (f : Format) (head : Float) (tail : List Float) → lt (normL2 f tail) (minPositiveOf f) ≡ true → makeHouseholderInPlace f head tail .tail ≡ tail
-unfolding makeHouseholderInPlace makeHouseholder reflectNothing tailTurnedAway
-stays f head tail h = rw h (either (λ (r : Reflection). r .tail ≡ tail) (tailFits (length tail)) _ _ refl refl)
-
 -- one more number at the end of a list is taken last
 taken-last : (f : Format) (a : Float) (xs : List Float) (y : Float) → normFrom f a (xs ++ (y ∷ [])) ≡ hypot f (normFrom f a xs) y
 unfolding normFrom
@@ -48,15 +31,15 @@ taken-last f a [] y = refl
 taken-last f a (x ∷ xs) y = taken-last f (hypot f a x) xs y
 
 pub longer-reflections : LongerReflections
-unfolding makeHouseholderInPlace makeHouseholder reflectTail tailFits normL2 normFrom
+unfolding makeHouseholderInPlace makeHouseholder reflectNothing reflectTail tailFits tailTurnedAway baseReflection normL2 normFrom
 longer-reflections =
     record {
-      rule = rule;
-      done = λ f head tail t. rw (rule f head tail t, answered f head tail);
+      rule = λ f head tail t. rw (taken-fits tail t);
+      done = λ f head tail t. rw (taken-fits tail t) (answered f head tail);
       empty = λ f head. refl;
-      tooLong = too-long;
-      asBefore = as-before;
-      stays = stays;
+      tooLong = λ f head tail h. rw (le-leb 1 (length tail) (omega (arith, h)), lt-leb (length tail) 64 h);
+      asBefore = λ f head tail h. rw (le-leb (length tail) 64 (omega (arith, h)), le-leb (length tail) 3 h);
+      stays = λ f head tail h. rw h (either (λ (r : Reflection). r .tail ≡ tail) (tailFits (length tail)) _ _ refl refl);
       scaled = λ f head tail t h. rw (taken-fits tail t, h);
       normOfOne = λ f x. refl;
       normOfOneMore = λ f x xs y. taken-last f (abs x) xs y;
