@@ -61,6 +61,11 @@ static const double one_two_three[9] = {1, 0, 0, 0, 2, 0, 0, 0, 3};
 static const double one_to_four[16] = {1, 0, 0, 0, 0, 2, 0, 0, 0, 0, 3, 0, 0, 0, 0, 4};
 static const double turn[4] = {0, -1, 1, 0}; /* the 2-block of rows (0, 1) and (-1, 0) */
 
+/* The two calls for the values of a form's blocks, which have the same parameters and lines. */
+typedef size_t values_call(size_t n, size_t ld, const double *t, size_t t_len, double *re,
+                           size_t re_len, double *im, size_t im_len);
+static values_call *const both[2] = {vx_block_values, vx_standardised_values};
+
 /* Two 2-blocks with equal values and other scales, whose swap declines. */
 static const double alike[16] = {0, -1, 0, 0, 1, 0, 0, 0, 1, 0, 0, -1e-8, 0, 1, 1e8, 0};
 
@@ -309,18 +314,20 @@ static void refusals(void)
     CHECK(refused_exchange(3, 3, 9, 9, 0, 1, 1) == VX_TOUCHING);
 
     /* Values and vectors, whose results would go to u. */
-    CHECK(vx_block_values(0, 0, t, 0, u, 0, u + 64, 0) == VX_ROWS);
-    CHECK(vx_block_values(65, 65, t, 65 * 65, u, 65, u + 65, 65) == VX_ROWS);
-    CHECK(vx_block_values(3, 3, t, 8, u, 3, u + 3, 3) == VX_FORM_LENGTH);
-    CHECK(vx_block_values(3, 3, t, 9, u, 2, u + 3, 3) == VX_BUFFER_LENGTH);
-    CHECK(vx_block_values(3, 3, t, 9, u, 3, u + 3, 4) == VX_BUFFER_LENGTH);
-    CHECK(vx_block_values(3, 3, t, 9, u, 3, u + 3, 3) == VX_TOUCHING);
+    for (size_t k = 0; k < PLACES(both); k++) {
+        CHECK(both[k](0, 0, t, 0, u, 0, u + 64, 0) == VX_ROWS);
+        CHECK(both[k](65, 65, t, 65 * 65, u, 65, u + 65, 65) == VX_ROWS);
+        CHECK(both[k](3, 3, t, 8, u, 3, u + 3, 3) == VX_FORM_LENGTH);
+        CHECK(both[k](3, 3, t, 9, u, 2, u + 3, 3) == VX_BUFFER_LENGTH);
+        CHECK(both[k](3, 3, t, 9, u, 3, u + 3, 4) == VX_BUFFER_LENGTH);
+        CHECK(both[k](3, 3, t, 9, u, 3, u + 3, 3) == VX_TOUCHING);
+        CHECK(both[k](3, 3, deep, 9, u, 3, u + 3, 3) == VX_DEEP_ENTRY);
+    }
     CHECK(vx_evd_from_real_schur(0, 0, t, 0, u, 0) == VX_ROWS);
     CHECK(vx_evd_from_real_schur(65, 65, t, 65 * 65, u, 65 * 65) == VX_ROWS);
     CHECK(vx_evd_from_real_schur(3, 3, t, 8, u, 9) == VX_FORM_LENGTH);
     CHECK(vx_evd_from_real_schur(3, 3, t, 9, u, 8) == VX_BUFFER_LENGTH);
     CHECK(vx_evd_from_real_schur(3, 3, t, 9, u, 9) == VX_TOUCHING);
-    CHECK(vx_block_values(3, 3, deep, 9, u, 3, u + 3, 3) == VX_DEEP_ENTRY);
     CHECK(vx_evd_from_real_schur(3, 3, deep, 9, u, 9) == VX_DEEP_ENTRY);
     CHECK(untouched());
 }
@@ -329,11 +336,14 @@ static void values_and_vectors(void)
 {
     const double upper[4] = {1, 0, 1, 2};
     double re[2], im[2], v[4] = {9, 9, 9, 9};
-    CHECK(vx_block_values(2, 2, turn, 4, re, PLACES(re), im, PLACES(im)) == VX_DONE);
-    CHECK(re[0] == 0 && re[1] == 0 && im[0] == 1 && im[1] == -1);
-    CHECK(vx_block_values(2, 2, upper, 4, re, PLACES(re), im, PLACES(im)) == VX_DONE);
-    CHECK(re[0] == 1 && re[1] == 2);
-    SAME(im[0], 0.0);
+    for (size_t k = 0; k < PLACES(both); k++) {
+        CHECK(both[k](2, 2, turn, 4, re, PLACES(re), im, PLACES(im)) == VX_DONE);
+        CHECK(re[0] == 0 && re[1] == 0 && im[0] == 1 && im[1] == -1);
+        CHECK(both[k](2, 2, upper, 4, re, PLACES(re), im, PLACES(im)) == VX_DONE);
+        CHECK(re[0] == 1 && re[1] == 2);
+        SAME(im[0], 0.0);
+        SAME(im[1], 0.0);
+    }
 
     CHECK(vx_evd_from_real_schur(2, 2, upper, 4, v, PLACES(v)) == VX_DONE);
     CHECK(v[0] == 1 && v[2] == 1 && v[3] == 1);
@@ -344,6 +354,90 @@ static void values_and_vectors(void)
     fill(u, 9.0);
     CHECK(vx_evd_from_real_schur(64, 64, zeros, 64 * 64, u, 64 * 64) == VX_DONE);
     CHECK(vx_block_values(64, 64, zeros, 64 * 64, u, 64, u + 64, 64) == VX_DONE);
+    CHECK(vx_standardised_values(64, 64, zeros, 64 * 64, u, 64, u + 64, 64) == VX_DONE);
+}
+
+/* The values of the block of rows (a, b) and (c, d), in rows 1 and 2 of a form of four: those of
+ * vx_lahqr_schur22, side by side, to x. The form stays, and so do the values beside them. */
+static void values_of(double a, double b, double c, double d, double *x)
+{
+    const double form[16] = {7, 0, 0, 0, 3, a, c, 0, -3, b, d, 0, 5, 6, -6, -0.0};
+    double re[4], im[4], out[10];
+    lend(form, 16);
+    CHECK(vx_standardised_values(4, 4, t, 16, re, 4, im, 4) == VX_DONE);
+    CHECK(untouched());
+    SAME(re[0], 7.0);
+    SAME(im[0], 0.0);
+    SAME(re[3], -0.0);
+    SAME(im[3], 0.0);
+    standardise(a, b, c, d, out);
+    for (size_t k = 0; k < 2; k++) {
+        SAME(re[1 + k], out[4 + 2 * k]);
+        SAME(im[1 + k], out[5 + 2 * k]);
+        x[2 * k] = re[1 + k];
+        x[2 * k + 1] = im[1 + k];
+    }
+}
+
+static void values_of_a_copy(void)
+{
+    double x[4], re[2], im[2];
+
+    /* Unequal diagonal numbers: 2.5 and the roots of -3.75. */
+    values_of(1, 2, -3, 4, x);
+    CHECK(fabs(x[0] - 2.5) < 1e-14 && fabs(x[1] - vx_sqrt(3.75)) < 1e-14);
+    SAME(x[2], x[0]);
+    SAME(x[3], -x[1]);
+
+    /* One sign: 1 and the roots of 6; and unequal diagonal numbers of a real pair: 5 and 2. */
+    values_of(1, 2, 3, 1, x);
+    CHECK(fabs(x[0] - (1 + vx_sqrt(6))) < 1e-14 && fabs(x[2] - (1 - vx_sqrt(6))) < 1e-14);
+    SAME(x[1], 0.0);
+    SAME(x[3], 0.0);
+    values_of(4, -2, -1, 3, x);
+    CHECK(fabs(x[0] - 5) < 1e-14 && fabs(x[2] - 2) < 1e-14);
+    SAME(x[1], 0.0);
+    SAME(x[3], 0.0);
+
+    /* b zero, of either sign: the lower diagonal number comes first. */
+    for (size_t k = 0; k < 2; k++) {
+        values_of(1, k ? -0.0 : 0.0, 5, 2, x);
+        SAME(x[0], 2.0);
+        SAME(x[1], 0.0);
+        SAME(x[2], 1.0);
+        SAME(x[3], 0.0);
+    }
+
+    /* -3 twice: the copy ends with b zero and c not, so the size is 0, and then its negative. */
+    values_of(-4, -1, 1, -2, x);
+    SAME(x[0], -3.0);
+    SAME(x[1], 0.0);
+    SAME(x[2], -3.0);
+    SAME(x[3], -0.0);
+
+    /* A NaN is not zero: c stays, and the pair is complex. Where all turn to NaN, it splits. */
+    values_of(1, 2, NAN, 1, x);
+    SAME(x[0], 1.0);
+    SAME(x[1], NAN);
+    SAME(x[2], 1.0);
+    SAME(x[3], NAN);
+    values_of(NAN, 2, -3, 1, x);
+    SAME(x[0], NAN);
+    SAME(x[1], 0.0);
+    SAME(x[2], NAN);
+    SAME(x[3], 0.0);
+
+    /* Standardised: both calls give the same, but where the diagonal has zeros of two signs. */
+    const double standard[4] = {-0.0, -1, 4, 0.0};
+    values_of(0.5, -9, 0.25, 0.5, x);
+    CHECK(x[0] == 0.5 && x[1] == 1.5 && x[2] == 0.5 && x[3] == -1.5);
+    CHECK(vx_block_values(2, 2, standard, 4, re, 2, im, 2) == VX_DONE);
+    SAME(re[1], -0.0);
+    CHECK(im[0] == 2 && im[1] == -2);
+    CHECK(vx_standardised_values(2, 2, standard, 4, re, 2, im, 2) == VX_DONE);
+    SAME(re[0], -0.0);
+    SAME(re[1], 0.0);
+    CHECK(im[0] == 2 && im[1] == -2);
 }
 
 /* Rows with a pair among them, as in examples/slow-mode.txt. */
@@ -351,6 +445,9 @@ static const double six[36] = {-3,  0,     0,     0,     0,    0,      0.5,   -0
                                0,   0,     0,     -0.25, 2,    -0.5,   0,     0,    0,
                                1,   0.375, 0.625, -1.25, 0,    0,      0.125, -0.5, 0.875,
                                0.5, -2,    0,     0.75,  0.25, -0.125, -0.75, 0.25, -0.0625};
+
+/* The same with a 2-block that is not standardised. */
+static double six_raw[36];
 
 /* Lends the form and the unit factor of n rows at a stride. In the rows from n on, and after the
  * last column, stand numbers that no form could have there. */
@@ -410,11 +507,14 @@ static void at_a_stride(size_t ld)
     CHECK(swaps == 1 && declined == 0);
     CHECK(holds(t, old_t, n, ld, form) && holds(u, old_u, n, ld, factor));
 
-    CHECK(vx_block_values(n, n, six, 36, values, 6, values + 6, 6) == VX_DONE);
-    lend_at(n, ld, six);
-    CHECK(vx_block_values(n, ld, t, len, re, 6, im, 6) == VX_DONE);
-    CHECK(memcmp(re, values, sizeof re) == 0 && memcmp(im, values + 6, sizeof im) == 0);
-    CHECK(untouched());
+    for (size_t k = 0; k < PLACES(both); k++) {
+        CHECK(both[k](n, n, six_raw, 36, values, 6, values + 6, 6) == VX_DONE);
+        CHECK((values[1] == values[2] && values[7] == -values[8]) == !k);
+        lend_at(n, ld, six_raw);
+        CHECK(both[k](n, ld, t, len, re, 6, im, 6) == VX_DONE);
+        CHECK(memcmp(re, values, sizeof re) == 0 && memcmp(im, values + 6, sizeof im) == 0);
+        CHECK(untouched());
+    }
 
     lend_at(n, n, six);
     CHECK(vx_evd_from_real_schur(n, n, t, 36, u, 36) == VX_DONE);
@@ -431,19 +531,21 @@ static void at_a_stride(size_t ld)
     CHECK(refused_move(n, ld, len, len, 5, 0) == VX_TOUCHING);
     t[5 + ld * 3] = old_t[5 + ld * 3] = NAN;
     CHECK(refused_move(n, ld, len, len, 5, 0) == VX_DEEP_ENTRY);
-    CHECK(vx_block_values(n, ld, t, len, u, 6, u + 6, 6) == VX_DEEP_ENTRY);
+    for (size_t k = 0; k < PLACES(both); k++)
+        CHECK(both[k](n, ld, t, len, u, 6, u + 6, 6) == VX_DEEP_ENTRY);
     CHECK(vx_evd_from_real_schur(n, ld, t, len, u, len) == VX_DEEP_ENTRY);
     CHECK(untouched());
 }
 
-/* The number that all four calls give, of buffers that they must leave. The three last lengths are
+/* The number that all five calls give, of buffers that they must leave. The three last lengths are
  * those of the factor or vectors, and of re and im. */
 static size_t refused_by_all(size_t n, size_t ld, size_t t_len, size_t len, size_t re_len,
                              size_t im_len)
 {
     size_t number = refused_move(n, ld, t_len, len, 0, 1);
     CHECK(refused_exchange(n, ld, t_len, len, 0, 1, 1) == number);
-    CHECK(vx_block_values(n, ld, t, t_len, u, re_len, u + 64, im_len) == number);
+    for (size_t k = 0; k < PLACES(both); k++)
+        CHECK(both[k](n, ld, t, t_len, u, re_len, u + 64, im_len) == number);
     CHECK(vx_evd_from_real_schur(n, ld, t, t_len, u, len) == number);
     CHECK(untouched());
     return number;
@@ -452,6 +554,8 @@ static size_t refused_by_all(size_t n, size_t ld, size_t t_len, size_t len, size
 static void strides(void)
 {
     const size_t all[5] = {6, 7, 12, 127, 128};
+    memcpy(six_raw, six, sizeof six_raw);
+    six_raw[2 + 6 * 1] = 1.5; /* two signs alike: a real pair */
     for (size_t k = 0; k < PLACES(all); k++)
         at_a_stride(all[k]);
 
@@ -475,7 +579,8 @@ static void strides(void)
     lend_at(64, 128, zeros);
     CHECK(refused_by_all(64, 63, 64 * 63, 64 * 63, 64, 64) == VX_STRIDE);
     CHECK(refused_by_all(64, 129, 64 * 129, 64 * 129, 64, 64) == VX_STRIDE);
-    CHECK(vx_block_values(64, 128, t, 64 * 128, u, 64, u + 64, 64) == VX_DONE);
+    for (size_t k = 0; k < PLACES(both); k++)
+        CHECK(both[k](64, 128, t, 64 * 128, u, 64, u + 64, 64) == VX_DONE);
     CHECK(vx_evd_from_real_schur(64, 128, t, 64 * 128, u, 64 * 128) == VX_DONE);
     CHECK(vx_schur_swap(64, 128, t, 64 * 128, u, 64 * 128, 62, 1, 1, &swaps, &declined) == VX_DONE);
     CHECK(move(64, 128, 64 * 128, 64 * 128, 63, 0) == VX_DONE);
@@ -511,6 +616,7 @@ int main(void)
     exchanges();
     refusals();
     values_and_vectors();
+    values_of_a_copy();
     strides();
     messages();
     printf("%d checks passed, %d failed\n", passed, failed);

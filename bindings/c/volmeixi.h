@@ -20,9 +20,9 @@
  * What a call is given must not overlap: no byte may belong to two of its buffers, matrices and
  * results. Only buffers and matrices that are const may share bytes, with each other: vx_lasy2 may
  * be given the same matrix twice. Numbers are given by value, so vx_apply(c, s, x, y, &x, &y) is
- * fine; vx_block_values with re and im inside t, or a factor that is the form, is not, and nothing
- * holds of the results then. Nor are two corners of one array that share columns: the rows beside a
- * corner are places of its buffer.
+ * fine; vx_block_values or vx_standardised_values with re and im inside t, or a factor that is the
+ * form, is not, and nothing holds of the results then. Nor are two corners of one array that share
+ * columns: the rows beside a corner are places of its buffer.
  *
  * A call that gives a size_t gives 0 when it was carried out, or the number of the first line
  * below that applies; vx_message has its sentence. Turned away, it has changed no buffer, and its
@@ -116,15 +116,27 @@ size_t vx_schur_swap(size_t n, size_t ld, double *t, size_t t_len, double *u, si
 
 /* The values of the form's blocks, to re and im, n places each, side by side. A 1-block gives its
  * diagonal number and +0; a 2-block its first diagonal number twice, with m and then -m, where m is
- * the root of the lower entry's magnitude times the root of the upper's.
+ * the root of the lower entry's magnitude times the root of the upper's. That is the 2-block's
+ * spectrum only where it is standardised: its diagonal numbers are equal, the other two have unlike
+ * signs. Use vx_standardised_values where one may not be.
  * Gives 0, 2, 17, 3, 4 (re_len, im_len), 5 or 6. */
 size_t vx_block_values(size_t n, size_t ld, const double *t, size_t t_len, double *re,
                        size_t re_len, double *im, size_t im_len);
 
+/* The same, but of a 2-block a copy is standardised first, by vx_lahqr_schur22, whose re1, im1, re2
+ * and im2 it gives: a real pair in the order in which it comes out, with +0 beside each, or, where
+ * the copy ends with c not zero, its two diagonal numbers, with the size and then its negative. A
+ * 1-block gives its diagonal number and +0. The form is not written.
+ * Gives 0, 2, 17, 3, 4 (re_len, im_len), 5 or 6. */
+size_t vx_standardised_values(size_t n, size_t ld, const double *t, size_t t_len, double *re,
+                              size_t re_len, double *im, size_t im_len);
+
 /* The vectors of the form, to v, ld * n places, column after column. A 1-block's column is its
  * vector; a 2-block's two columns are the real and the imaginary part. Column j is the n places
  * from ld * j on. It is written from row 0 to the last row of its block; the rest stays as it was,
- * so fill v with zeros first if the whole column is read.
+ * so fill v with zeros first if the whole column is read. A 2-block is read as it stands: where it
+ * is not standardised, its columns and those of the blocks below it need not be vectors of the
+ * form.
  * Gives 0, 2, 17, 3, 4 (v_len), 5 or 6. */
 size_t vx_evd_from_real_schur(size_t n, size_t ld, const double *t, size_t t_len, double *v,
                               size_t v_len);

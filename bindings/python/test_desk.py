@@ -3,6 +3,7 @@ says to bad input, and that decimals come back exactly."""
 
 import contextlib
 import io
+import itertools
 import math
 import os
 import pathlib
@@ -32,6 +33,31 @@ EDGES = [
     1e23,
 ]
 
+# what is shown of a form with a standardised 2-block, but for the last two lines
+STANDARD = """\
+Request of 3 rows: move the block in row 0 to row 0, without factor.
+
+Form (blocks in brackets):
+
+    0    1    2
+0 [-1    2]   3
+1 [-3   -1]   4
+2   .    .  [ 5]
+
+Modes, in their order; * is the moved block:
+
+mode  rows  real  imaginary  decay            half-life  period
+1*    0, 1    -1  +-2.44949      1             0.693147  2.5651
+2     2        5          0     -5  doubles in 0.138629       -
+
+Vectors, of the form (a pair's: real and imaginary part, for +imaginary):
+
+      1 re     1 im        2
+0 0.816497        0 0.619048
+1        0        1 0.357143
+2        .        .        1
+"""
+
 
 class Desk(unittest.TestCase):
     def setUp(self):
@@ -46,6 +72,11 @@ class Desk(unittest.TestCase):
 
     def matrix(self, rows, name="m.csv"):
         return self.file(name, "".join(",".join(map(repr, row)) + "\n" for row in rows))
+
+    def request(self, rows, start=0):
+        """A file with the request to leave the block of a row where it is."""
+        form = texts.square(rows, "")
+        return self.file("r", texts.request_text(texts.Request(len(rows), start, start, form, [])))
 
     def run_whole(self, *words, given="", **changed):
         """Status, output and errors of the command in a process of its own."""
@@ -277,30 +308,113 @@ class ShowCommand(Desk):
         self.assertEqual(out[2].split(), ["3", "2", "-0.5", "0", "0.5", "1.38629", "-"])
         self.assertEqual(out[3].split(), ["4", "3,", "4", "-1", "+-2", "1", "0.693147", "3.14159"])
 
+    def modes_shown(self, rows, start=0):
+        """The cells of the table of modes, and the lines below it."""
+        out = self.good("show", self.request(rows, start))
+        lines = out.split("Modes")[1].split("Vectors, ")[0].rstrip("\n").split("\n")[3:]
+        below = [line for line in lines if line.startswith("The ")]
+        return [line.split() for line in lines[: len(lines) - len(below)]], below
+
     def test_block_that_is_not_standardised(self):
-        said = "is not standardised"
         for block, told in [
             ([[1, 2], [-3, 4]], True),
             ([[1, 2], [3, 1]], True),
+            ([[1, 0], [5, 1]], True),
             ([[1, 2], [-3, 1]], False),
             ([[1, 0], [0, 4]], False),
         ]:
-            self.good("sheet", self.matrix(block), "--from", "0", "--to", "0", "-o", "s")
-            self.assertEqual(said in self.good("show", "s"), told, block)
+            out = self.good("show", self.request(block))
+            self.assertEqual("The 2-block in rows 0, 1 is not standardised" in out, told, block)
+            self.assertEqual("from mode 1 on they need not be vectors of these modes" in out, told, block)
+
+    def test_values_of_a_block_that_is_not_standardised(self):
+        """They are those of a copy that is standardised first: unequal diagonal numbers, one sign, b zero,
+        and a copy whose imaginary size is 0."""
+        for block, pairs in [
+            (
+                [[1, 2], [-3, 4]],
+                [["1*", "0,", "1", "2.5", "+-1.93649", "-2.5", "doubles", "in", "0.277259", "3.24462"]],
+            ),
+            (
+                [[1, 2], [3, 1]],
+                [
+                    ["1*", "0,", "1", "3.44949", "0", "-3.44949", "doubles", "in", "0.200942", "-"],
+                    ["2*", "0,", "1", "-1.44949", "0", "1.44949", "0.478201", "-"],
+                ],
+            ),
+            (
+                [[1, 0], [5, 2]],
+                [
+                    ["1*", "0,", "1", "2", "0", "-2", "doubles", "in", "0.346574", "-"],
+                    ["2*", "0,", "1", "1", "0", "-1", "doubles", "in", "0.693147", "-"],
+                ],
+            ),
+            (
+                [[-4, -1], [1, -2]],
+                [
+                    ["1*", "0,", "1", "-3", "0", "3", "0.231049", "-"],
+                    ["2*", "0,", "1", "-3", "0", "3", "0.231049", "-"],
+                ],
+            ),
+        ]:
+            shown, below = self.modes_shown(block)
+            self.assertEqual(shown, pairs)
+            self.assertEqual(len(below), 2)
+
+    def test_real_pair_among_rows(self):
+        """It has two numbers, one pair of brackets, two columns; what is above it is not in doubt."""
+        rows = [[-3, 0.5, 0.5, 1], [0, 1, 2, 1], [0, 3, 1, 0.5], [0, 0, 0, -2]]
+        shown, below = self.modes_shown(rows, 2)
+        self.assertEqual([cells[0] for cells in shown], ["1", "2*", "3*", "4"])
+        self.assertEqual(shown[1][1:4], ["1,", "2", "3.44949"])
+        self.assertEqual(shown[2][1:4], ["1,", "2", "-1.44949"])
+        self.assertEqual(len(below), 2)
+        self.assertIn("The 2-block in rows 1, 2", below[0])
+        self.assertIn("from mode 2 on", below[1])
+        form, vectors = self.good("show", self.request(rows)).split("Modes")
+        self.assertEqual((form.count("["), form.count("]")), (4, 4))
+        self.assertEqual(form.split("\n")[6].split(), ["1", ".", "[", "1", "2]", "1"])
+        heads = vectors.split("Vectors")[1].split("\n")[2]
+        self.assertEqual(heads.split(), ["1", "2,", "3", "re", "2,", "3", "im", "4"])
+
+    def test_standardised_block(self):
+        out = self.good("show", self.request([[-1, 2, 3], [-3, -1, 4], [0, 0, 5]]))
+        self.assertEqual(out[: out.index("\nA mode goes as")], STANDARD)
+
+    def test_nan_in_a_block(self):
+        nan = math.nan
+        for a, b, c, d in itertools.product([nan, 1.0], [nan, 0.0, 2.0], [nan, -3.0], [nan, 1.0]):
+            name = self.request([[a, b], [c, d]])
+            self.assertIn("mode  rows", self.good("show", name))
+            self.good("plot", name, "-o", "p.svg")
+        self.assertEqual(self.modes_shown([[1, 2], [nan, 1]])[0][0][3:5], ["1", "+-nan"])
+
+    def are_vectors(self, n, form, found, factor=None):
+        """The form times each mode's vector, through the factor if there is one, is its value times it."""
+        for mode in found:
+            parts = [*mode.block.columns, [0.0] * n][:2]
+            if factor is not None:
+                parts = [modes.through(n, factor, part) for part in parts]
+            vector = [complex(*pair) for pair in zip(*parts)]
+            for i in range(n):
+                left = sum(form[i + n * j] * vector[j] for j in range(n))
+                self.assertAlmostEqual(left, complex(mode.re, mode.im) * vector[i], places=13)
 
     def test_vectors_are_vectors(self):
-        """The form times a vector is its value times the vector; through the factor too, of the old form."""
         before = texts.parse_request((EXAMPLES / "slow-mode.txt").read_text(), "")
         after = texts.parse_sheet((EXAMPLES / "slow-mode.sheet").read_text(), "")
         for form, factor in ((before.form, None), (after.form, None), (before.form, after.factor)):
-            for mode in modes.modes_of(6, form if factor is None else after.form):
-                parts = [mode.real, mode.imaginary or [0.0] * 6]
-                if factor is not None:
-                    parts = [modes.through(6, factor, part) for part in parts]
-                vector = [complex(*pair) for pair in zip(*parts)]
-                for i in range(6):
-                    left = sum(form[i + 6 * j] * vector[j] for j in range(6))
-                    self.assertAlmostEqual(left, complex(mode.re, mode.im) * vector[i], places=13)
+            self.are_vectors(6, form, modes.modes_of(6, form if factor is None else after.form), factor)
+
+    def test_an_exchange_standardises(self):
+        """The way out that is told: after it the vectors, through the factor, are those of the old form."""
+        for block in ([[1, 2], [-3, 4]], [[1, 2], [3, 1]], [[1, 0], [5, 2]]):
+            rows = [[-3, 0.5, 0.75], [0, *block[0]], [0, *block[1]]]
+            words = ["--from", "0", "--to", "2", "--factor", "unit", "-o", "s"]
+            self.good("sheet", self.matrix(rows), *words)
+            self.assertNotIn("standardised", self.good("show", "s"))
+            after = texts.parse_sheet((self.at / "s").read_text(), "s")
+            self.are_vectors(3, texts.square(rows, ""), modes.modes_of(3, after.form), after.factor)
 
     def test_csv_comes_back_exactly(self):
         for kind in ("form", "factor"):
@@ -459,6 +573,20 @@ class PlotCommand(Desk):
         root = self.picture("s")
         self.assertEqual(len(root.findall(f"{SVG}circle")), 1)
         self.assertIn("1, 2", [text.text for text in root.findall(f"{SVG}text")])
+
+    def test_real_pair(self):
+        """Both values of a 2-block of one sign are drawn, numbered and named."""
+        self.good("sheet", self.matrix([[1, 2], [3, 1]]), "--from", "0", "--to", "0", "-o", "s")
+        root = self.picture("s")
+        circles = root.findall(f"{SVG}circle")
+        self.assertEqual([dot.get("fill") for dot in circles], [plot.MOVED] * 2)
+        self.assertEqual(circles[0].get("cy"), circles[1].get("cy"))
+        self.assertLess(float(circles[1].get("cx")), float(circles[0].get("cx")))
+        texts_of = root.findall(f"{SVG}text")
+        self.assertEqual([text.text for text in texts_of if text.get("stroke")], ["1", "2"])
+        words = [text.text for text in texts_of]
+        self.assertIn("rows 0\u20131: 3.449", words)
+        self.assertIn("rows 0\u20131: \u22121.449", words)
 
     def test_what_is_not_finite_is_named(self):
         self.good("sheet", self.matrix([[math.nan, 0], [0, -1]]), "--from", "0", "--to", "0", "-o", "s")

@@ -8,6 +8,7 @@ import contextlib
 import ctypes
 import doctest
 import inspect
+import itertools
 import math
 import struct
 import unittest
@@ -22,6 +23,7 @@ except ImportError:
     numpy = None
 
 TURN = (0.0, -1.0, 1.0, 0.0)  # the 2-block of rows (0, 1) and (-1, 0)
+VALUES = (vx.block_values, vx.standardised_values)  # which have the same parameters and lines
 
 # rows with a pair among them, as in examples/slow-mode.txt, column after column
 SIX = (
@@ -32,6 +34,8 @@ SIX = (
     *(0.125, -0.5, 0.875, 0.5, -2, 0),
     *(0.75, 0.25, -0.125, -0.75, 0.25, -0.0625),
 )
+
+RAW = (*SIX[:8], 1.5, *SIX[9:])  # the same with a 2-block of one sign, a real pair
 
 # what no form could have beside it: NaN (a signalling one too), infinity, a subnormal, minus zero
 OTHERS = array("d", struct.pack("6Q", 0x7FF8 << 48, 0x7FF4 << 48 | 0xBEEF, 0x7FF0 << 48, 1, 1 << 63, 7))
@@ -194,18 +198,94 @@ class Worked(Case):
         self.refused(10, exchange(0, 1, 1), floats(TURN), u[:4])
 
     def test_values(self):
-        self.assertEqual(vx.block_values(TURN), (floats([0, 0]), floats([1, -1])))
-        re, im = floats([9, 9]), floats([9, 9])
-        given = vx.block_values(TURN, re, im)
-        self.assertTrue(given[0] is re and given[1] is im)
-        self.assertEqual((re, im), (floats([0, 0]), floats([1, -1])))
-        self.assertEqual(vx.block_values([1, 0, 1, 2], im=im), (floats([1, 2]), floats([0, 0])))
-        self.assertEqual(im, floats([0, 0]))
+        for values in VALUES:
+            self.assertEqual(values(TURN), (floats([0, 0]), floats([1, -1])))
+            re, im = floats([9, 9]), floats([9, 9])
+            given = values(TURN, re, im)
+            self.assertTrue(given[0] is re and given[1] is im)
+            self.assertEqual((re, im), (floats([0, 0]), floats([1, -1])))
+            self.assertEqual(values([1, 0, 1, 2], im=im), (floats([1, 2]), floats([0, 0])))
+            self.assertEqual(im, floats([0, 0]))
 
-        self.assertIn("re has 1 number:", self.refused(4, lambda re: vx.block_values(TURN, re, im), floats([9])))
-        self.assertIn("im has 3 num", self.refused(4, lambda im: vx.block_values(TURN, im=im), floats([9] * 3)))
-        self.refused(3, lambda re, im: vx.block_values(TURN[1:], re, im), re, im)
-        self.refused(2, lambda: vx.block_values([]))
+            self.assertIn("re has 1 number:", self.refused(4, lambda re: values(TURN, re, im), floats([9])))
+            self.assertIn("im has 3 num", self.refused(4, lambda im: values(TURN, im=im), floats([9] * 3)))
+            self.refused(3, lambda re, im: values(TURN[1:], re, im), re, im)
+            self.refused(2, lambda: values([]))
+            touching, deep = floats([1, 1, 0, 0, 2, math.nan, 0, 0, 3]), floats([1, 0, math.nan, 0, 2, 0, 0, 0, 3])
+            self.refused(6, values, touching, floats([9] * 3), floats([9] * 3))
+            self.refused(5, values, deep, floats([9] * 3), floats([9] * 3))
+            with self.assertRaisesRegex(ValueError, "overlap"):
+                values(TURN, re, re)
+
+    def copied(self, a, b, c, d):
+        """The values of the 2-block of rows (a, b) and (c, d), in rows 1 and 2 of a form of four, by a
+        copy: bit for bit those of lahqr_schur22. The form stays."""
+        t = floats([7, 0, 0, 0, 3, a, c, 0, -3, b, d, 0, 5, 6, -6, -0.0])
+        before = bytes(t)
+        re, im = vx.standardised_values(t)
+        self.assertEqual(bytes(t), before)
+        values = vx.lahqr_schur22(a, b, c, d).values
+        parts = [(7.0, 0.0), *((value.real, value.imag) for value in values), (-0.0, 0.0)]
+        for x, y in zip((*re, *im), (*(part[0] for part in parts), *(part[1] for part in parts))):
+            self.same(*(math.nan if math.isnan(number) else number for number in (x, y)))
+        return re[1:3].tolist(), im[1:3].tolist()
+
+    def test_values_of_a_copy(self):
+        (first, second), im = self.copied(1, 2, -3, 4)
+        self.assertAlmostEqual(first, 2.5, places=14)
+        self.assertAlmostEqual(im[0], math.sqrt(3.75), places=14)
+        self.assertEqual((second, im[1]), (first, -im[0]))
+        for block, pair in (((1, 2, 3, 1), (1 + math.sqrt(6), 1 - math.sqrt(6))), ((4, -2, -1, 3), (5, 2))):
+            re, im = self.copied(*block)
+            self.assertAlmostEqual(re[0], pair[0], places=14)
+            self.assertAlmostEqual(re[1], pair[1], places=14)
+            for part in im:
+                self.same(part, 0.0)
+        for zero in (0.0, -0.0):
+            self.assertEqual(self.copied(1, zero, 5, 2), ([2, 1], [0, 0]))
+        re, im = self.copied(-4, -1, 1, -2)  # -3 twice: the copy ends with b zero and c not
+        self.assertEqual(re, [-3, -3])
+        self.same(im[0], 0.0)
+        self.same(im[1], -0.0)
+        re, im = self.copied(1, 2, math.nan, 1)  # a NaN is not zero
+        self.assertTrue(re == [1, 1] and all(map(math.isnan, im)))
+        re, im = self.copied(math.nan, 2, -3, 1)
+        self.assertTrue(all(map(math.isnan, re)) and im == [0, 0])
+        edges = (0.0, -0.0, 1.0, -2.0, 5e-324, -1e308, math.inf, math.nan)
+        for block in itertools.product(edges, edges, edges[2:], edges):
+            self.copied(*block)
+
+    def test_values_of_a_standardised_block(self):
+        """Both calls give the same, but where the diagonal numbers are zeros of two signs."""
+        for t in (TURN, (0.5, 0.75, -3, 0.5), (1e300, 5e-324, -1e308, 1e300), (-0.0, -1, 4, -0.0)):
+            for x, y in zip(*(values(t) for values in VALUES)):
+                self.assertEqual(bytes(x), bytes(y))
+        t = (-0.0, -1, 4, 0.0)
+        self.same(vx.block_values(t)[0][1], -0.0)
+        self.same(vx.standardised_values(t)[0][1], 0.0)
+        self.assertEqual(vx.block_values(t)[1], vx.standardised_values(t)[1])
+
+    @unittest.skipUnless(numpy, "NumPy is not there")
+    def test_values_beside_numpy(self):
+        """Of forms with raw 2-blocks: the values that NumPy finds, block by block, within rounding."""
+
+        def in_order(values):
+            return sorted(values, key=lambda value: (value.real, value.imag))
+
+        random = numpy.random.default_rng(5)
+        real = 0
+        for _ in range(300):
+            t = numpy.triu(random.standard_normal((6, 6)))
+            for j in (0, 3):
+                t[j + 1, j] = random.standard_normal()
+            re, im = vx.standardised_values(t)
+            self.assertEqual([re[2], re[5], im[2], im[5]], [t[2, 2], t[5, 5], 0, 0])
+            for j in (0, 3):
+                ours = in_order((re + 1j * im)[j : j + 2])
+                theirs = in_order(numpy.linalg.eigvals(t[j : j + 2, j : j + 2]))
+                self.assertLess(abs(numpy.subtract(ours, theirs)).max(), 1e-12)
+                real += im[j] == 0
+        self.assertTrue(200 < real < 500, real)
 
     def test_vectors(self):
         v = vx.evd_from_real_schur([1, 0, 1, 2])
@@ -288,9 +368,10 @@ class Worked(Case):
             gaps[::2, ::2] = t
             t.setflags(write=False)
             for form in (t, gaps[::2, ::2]):
-                re, im = vx.block_values(form)
-                self.assertIsInstance(re, numpy.ndarray)
-                self.assertEqual((re.tolist(), im.tolist()), ([1, 2, 3], [0, 0, 0]))
+                for values in VALUES:
+                    re, im = values(form)
+                    self.assertIsInstance(re, numpy.ndarray)
+                    self.assertEqual((re.tolist(), im.tolist()), ([1, 2, 3], [0, 0, 0]))
                 v = vx.evd_from_real_schur(form)
                 self.assertEqual(v.shape, (3, 3))
                 self.assertEqual((t @ v).tolist(), (v * re).tolist())
@@ -317,11 +398,12 @@ class Worked(Case):
 
         wrong, right = numpy.zeros((2, 8), order="F"), numpy.zeros((4, 4), order="F")
         self.assertIn("the form t has shape (2, 8)", self.refused(3, move, wrong))
-        self.assertIn("the form t has shape (2, 8)", self.refused(3, vx.block_values, wrong))
+        for values in VALUES:
+            self.assertIn("the form t has shape (2, 8)", self.refused(3, values, wrong))
+            self.assertIn("re has shape (4, 1)", self.refused(4, lambda re: values(right, re), right[:, :1]))
         self.assertIn("the factor u has shape (2, 8)", self.refused(4, move, right, wrong))
         self.assertIn("v has shape (2, 8)", self.refused(4, lambda v: vx.evd_from_real_schur(right, v), wrong))
         self.assertIn("v has shape (2, 8)", self.refused(4, lambda v: vx.column(v, 1), wrong))
-        self.assertIn("re has shape (4, 1)", self.refused(4, lambda re: vx.block_values(right, re), right[:, :1]))
         self.refused(3, lambda t: vx.schur_swap(t, None, 0, 1, 1), numpy.zeros((4, 2, 2), order="F"))
         self.refused(2, move, numpy.zeros((65, 65), order="F"))
         with self.assertRaises(TypeError):
@@ -354,12 +436,21 @@ class Strides(Case):
                 self.assertEqual(call(alone, None, stride=stride), answer)
                 self.assertEqual(bytes(alone), bytes(wide_t))
 
-    def test_values_and_vectors(self):
-        values, v = vx.block_values(SIX), vx.evd_from_real_schur(SIX, floats([9] * 36))
+    def test_values(self):
+        for form in (SIX, RAW):
+            for values in VALUES:
+                for stride in (6, 7, 12, 127, 128):
+                    t = spread(form, 6, stride)
+                    self.assertEqual(values(t, stride=stride), values(form))
+                    self.assertEqual(values(t.tolist(), stride=stride), values(form))
+                    self.assertEqual(bytes(t), bytes(spread(form, 6, stride)))
+        self.assertEqual(vx.standardised_values(SIX), vx.block_values(SIX))
+        self.assertNotEqual(vx.standardised_values(RAW), vx.block_values(RAW))
+
+    def test_vectors(self):
+        v = vx.evd_from_real_schur(SIX, floats([9] * 36))
         for stride in (6, 7, 12, 127, 128):
             t = spread(SIX, 6, stride)
-            self.assertEqual(vx.block_values(t, stride=stride), values)
-            self.assertEqual(vx.block_values(t.tolist(), stride=stride), values)
             wide = spread([9] * 36, 6, stride)
             self.assertIs(vx.evd_from_real_schur(t, wide, stride=stride), wide)
             self.assertEqual(bytes(wide), bytes(spread(v, 6, stride)))
@@ -377,7 +468,8 @@ class Strides(Case):
         self.refused(number, lambda t, u: vx.schur_swap(t, u, 0, 1, 1, stride=stride), t, u)
         self.refused(number, lambda t, v: vx.evd_from_real_schur(t, v, stride=stride), t, u)
         if number != 4:
-            self.refused(number, lambda t: vx.block_values(t, stride=stride), t)
+            for values in VALUES:
+                self.refused(number, lambda t: values(t, stride=stride), t)
 
     def test_refused(self):
         """2, then 17, then 3, then 4."""
@@ -598,14 +690,19 @@ class Corners(Case):
         self.assertEqual(sheet.tobytes(), before)
 
     def test_values_and_vectors(self):
-        values, vectors = vx.block_values(self.six()), vx.evd_from_real_schur(self.six())
+        raw, vectors = self.six(), vx.evd_from_real_schur(self.six())
+        raw[2, 1] = 1.5
         for rows in (8, 128, 129, 300):  # what is only read is copied, whatever its stride
             for order in "FC":
                 sheet, part = self.sheet(rows, 8, order), self.square(2, 2, 6)
                 sheet[part] = self.six()
-                sheet.setflags(write=False)
-                for x, y in zip(vx.block_values(sheet[part]), values):
-                    self.assertEqual(x.tobytes(), y.tobytes())
+                other = sheet.copy(order=order)
+                other[part] = raw
+                for each in (sheet, other):
+                    each.setflags(write=False)
+                for values in VALUES:
+                    for x, y in zip(values(other[part]), values(raw)):
+                        self.assertEqual(x.tobytes(), y.tobytes())
                 self.assertEqual(vx.evd_from_real_schur(sheet[part]).tobytes(), vectors.tobytes())
 
         v = vx.evd_from_real_schur(self.six(), numpy.full((6, 6), 9.0, order="F"))
@@ -623,9 +720,13 @@ class Corners(Case):
 
         sheet = self.sheet(8, 8)
         form = sheet[:6, :6]
+        form[:] = raw
+        for values in VALUES:
+            values(form, sheet[2:, 6], sheet[2:, 7])
+            parts = [sheet[2:, 6].tobytes(), sheet[2:, 7].tobytes()]
+            self.assertEqual(parts, [part.tobytes() for part in values(raw)])
+            self.assertEqual(form.tobytes(), raw.tobytes())
         form[:] = self.six()
-        vx.block_values(form, sheet[2:, 6], sheet[2:, 7])
-        self.assertEqual([sheet[2:, 6].tobytes(), sheet[2:, 7].tobytes()], [part.tobytes() for part in values])
         vx.evd_from_real_schur(form, form)  # what is read is copied, so it may be what is written
         self.assertEqual(numpy.triu(form).tobytes(), numpy.triu(vectors).tobytes())
 

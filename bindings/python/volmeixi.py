@@ -91,6 +91,7 @@ __all__ = [
     "rotg",
     "schur_swap",
     "sqrt",
+    "standardised_values",
 ]
 
 _MESSAGES = {
@@ -215,6 +216,7 @@ _GIVEN = {
     "schur_swap": (_SIZE, *[_SIZE] * 2, *_FLOATS, *_FLOATS, *[_SIZE] * 3, *[_TO_SIZE] * 2),
     "reorder_schur": (_SIZE, *[_SIZE] * 2, *_FLOATS, *_FLOATS, *[_SIZE] * 2, *[_TO_SIZE] * 3),
     "block_values": (_SIZE, *[_SIZE] * 2, *_FLOATS, *_FLOATS, *_FLOATS),
+    "standardised_values": (_SIZE, *[_SIZE] * 2, *_FLOATS, *_FLOATS, *_FLOATS),
     "evd_from_real_schur": (_SIZE, *[_SIZE] * 2, *_FLOATS, *_FLOATS),
 }
 
@@ -483,31 +485,53 @@ def schur_swap(t, u, j0, n1, n2, *, stride=None):
 # ---- Values and vectors
 
 
-def block_values(t, re=None, im=None, *, stride=None):
-    """The values of the form's blocks: their real and imaginary parts, n numbers each.
-
-    A 1-block gives its diagonal number and +0; a 2-block its first diagonal number twice, with m
-    and then -m, where m is the root of the lower entry's magnitude times that of the upper's.
-    Written to re and im where they are lent, else to new arrays. stride is that of a form of one
-    dimension, if it is not n. Gives both.
-    """
+def _values(name, t, re, im, stride):
+    """The two parts that a call for the values of a form's blocks writes."""
     n, form = _rows(_given(t), stride, 3, "the form t")
     re, im = (_new(t, n) if part is None else part for part in (re, im))
     lent_re, lent_im = _lent(re), _lent(im)
     _fits(lent_re, "re", (n,))
     _fits(lent_im, "im", (n,))
     _apart(lent_re, lent_im)
-    _run("block_values", n, form.stride, form, lent_re, lent_im)
+    _run(name, n, form.stride, form, lent_re, lent_im)
     return re, im
+
+
+def block_values(t, re=None, im=None, *, stride=None):
+    """The values of the form's blocks: their real and imaginary parts, n numbers each.
+
+    A 1-block gives its diagonal number and +0; a 2-block its first diagonal number twice, with m
+    and then -m, where m is the root of the lower entry's magnitude times that of the upper's. That
+    is the 2-block's spectrum only where it is standardised: its diagonal numbers are equal, the
+    other two have unlike signs. Use standardised_values where one may not be.
+    Written to re and im where they are lent, else to new arrays. stride is that of a form of one
+    dimension, if it is not n. Gives both.
+    """
+    return _values("block_values", t, re, im, stride)
+
+
+def standardised_values(t, re=None, im=None, *, stride=None):
+    """The values of the form's blocks, of each 2-block those of a copy that is standardised first.
+
+    A 1-block gives its diagonal number and +0. The copy, standardised by lahqr_schur22, gives a real
+    pair in the order in which it comes out, with +0 beside each, or, where it ends with c not zero,
+    its two diagonal numbers, with the size and then its negative. The form is not written. re, im
+    and stride are as in block_values.
+
+    >>> standardised_values([1, 5, 0, 2])  # the 2-block of rows (1, 0) and (5, 2)
+    (array('d', [2.0, 1.0]), array('d', [0.0, 0.0]))
+    """
+    return _values("standardised_values", t, re, im, stride)
 
 
 def evd_from_real_schur(t, v=None, *, stride=None):
     """The vectors of the form, n by n numbers, a column each.
 
     A 1-block's column is its vector; a 2-block's two columns are the real and the imaginary part.
-    A column is written from row 0 to the last row of its block; the rest stays as it was. Written
-    to v where it is lent, else to a new array, where the rest is zeros. stride is that of one
-    dimension, if it is not n. Gives v.
+    A column is written from row 0 to the last row of its block; the rest stays as it was. A 2-block
+    is read as it stands: where it is not standardised, its columns and those of the blocks below it
+    need not be vectors of the form. Written to v where it is lent, else to a new array, where the
+    rest is zeros. stride is that of one dimension, if it is not n. Gives v.
     """
     n, form = _rows(_given(t), stride, 3, "the form t")
     if v is None:

@@ -5,6 +5,7 @@
 //   differences exchanges COUNT SEED random moves: how often both sides make as many exchanges
 //   differences declines COUNT SEED  random exchanges of a 2-block and a row: how often LAPACK declines
 //   differences moduli COUNT SEED    random pairs: how often 01's formula and C's hypot are not the nearest
+//   differences readings COUNT SEED  random blocks, standardised: how often both readings of the rest agree
 #define _GNU_SOURCE
 #include "draws.h"
 #include "ours.h"
@@ -29,6 +30,8 @@ void dtrevc3_(const char *side, const char *howmny, int *select, const int *n, c
               const int *lwork, int *info, long, long);
 
 enum { MOST = 32, LONGEST = 64 };
+
+#define FORM(...) ((double[]){__VA_ARGS__})
 
 // ---- printing
 
@@ -73,6 +76,119 @@ static void rows(const char *who, int n, const double *t) { rows_at(who, n, n, t
 
 // One number of each side.
 static void one(const char *who, double x) { printf("  %-8s %s\n", who, number(x)); }
+
+// ---- two readings of values
+
+static void values(const double *x) {
+    double us[4], them[4];
+    ours_values(1, x, us), ours_values(0, x, them);
+    printf("values of (%s %s) (%s %s)\n", number(x[0]), number(x[1]), number(x[2]), number(x[3]));
+    named("ours", "re im re im", us);
+    named("the Rust", "re im re im", them);
+}
+
+// How a 2-block of whole numbers comes out of standardising: left as it was; a complex pair, or one
+// with b zero; a real pair from entries of one sign, of unlike signs, or a b that is zero, the diagonal
+// numbers equal or not; from a double value, one number twice or two numbers.
+enum { AS_IT_WAS, ROTATED, LEFT, ONE_SIGN, UNLIKE_SIGNS, ZERO_ABOVE, EXCHANGED, TWICE, SPLIT };
+
+static int kind(const double *x) {
+    double out[10], discriminant = (x[0] - x[3]) * (x[0] - x[3]) + 4 * x[1] * x[2];
+    ours_block(x, out);
+    if (x[1] == 0)
+        return x[0] == x[3] ? ZERO_ABOVE : EXCHANGED;
+    if (out[2] != 0)
+        return out[1] == 0 ? LEFT : same(x, out, 4) ? AS_IT_WAS : ROTATED;
+    if (discriminant == 0)
+        return out[0] == out[3] ? TWICE : SPLIT;
+    return (x[1] > 0) == (x[2] > 0) ? ONE_SIGN : UNLIKE_SIGNS;
+}
+
+// The least block of whole numbers of the kind; of those with the same sum, by d, c, b and a, the
+// smaller first and a number before its negative.
+static void least_block(int wanted, double *x) {
+    for (int sum = 1;; sum++) {
+        int each = 2 * sum + 1;
+        for (int k = 0; k < each * each * each * each; k++) {
+            double magnitudes = 0;
+            for (int i = 0, rest = k; i < 4; i++, rest /= each) {
+                int place = rest % each;
+                x[i] = place % 2 ? (place + 1) / 2 : -(place / 2);
+                magnitudes += fabs(x[i]);
+            }
+            if (magnitudes == sum && x[2] != 0 && kind(x) == wanted)
+                return;
+        }
+    }
+}
+
+static void least_values(int wanted) {
+    double x[4];
+    least_block(wanted, x);
+    values(x);
+}
+
+// A block with a double value, or its lower entry off by some last bits.
+static void double_value(double *x) {
+    double middle = styled(2), half = styled(2);
+    x[0] = middle + half, x[3] = middle - half, x[1] = styled(2);
+    x[2] = -half * half / x[1] * (1 + ((double)(next() % 9) - 4) * 0x1p-52);
+}
+
+// What standardising leaves of random blocks, where c is not zero, read both ways.
+static void readings(long count) {
+    enum { ALIKE, WITH_NAN, ZERO_SIGN, ZERO_B, OTHER, FOUND };
+    static const char *found[FOUND] = {"all four numbers alike", "alike, a NaN among them",
+                                       "another zero in the second real part", "b zero: a real pair here",
+                                       "anything else"};
+    long counts[FOUND] = {0}, rest = 0;
+    for (int style = 0; style <= STYLES; style++)
+        for (long k = 0; k < count; k++) {
+            double x[4], out[10], us[4], them[4];
+            if (style == STYLES)
+                double_value(x);
+            else
+                for (int i = 0; i < 4; i++)
+                    x[i] = i == 3 && k % 2 ? x[0] : styled(style);
+            ours_block(x, out);
+            if (out[2] == 0)
+                continue;
+            rest++;
+            ours_values(1, out, us), ours_values(0, out, them);
+            int nan = isnan(us[0]) || isnan(us[1]) || isnan(us[2]), zeros = us[2] == 0 && them[2] == 0;
+            int others = same(us, them, 2) && same(us + 3, them + 3, 1);
+            int at = out[1] == 0 ? ZERO_B : others && zeros ? ZERO_SIGN : OTHER;
+            if (same(us, them, 4))
+                at = nan ? WITH_NAN : ALIKE;
+            if (counts[at]++ < 3 && at == OTHER)
+                values(out);
+        }
+    printf("%ld random blocks of each of %d sorts, %ld with c not zero when standardised\n", count, STYLES + 1, rest);
+    for (int i = 0; i < FOUND; i++)
+        printf("  %-36s  %ld\n", found[i], counts[i]);
+}
+
+// standardised_values beside block_values.
+static void two_readings(void) {
+    least_values(ROTATED);
+    least_values(ONE_SIGN);
+    least_values(UNLIKE_SIGNS);
+    least_values(TWICE);
+    least_values(SPLIT);
+    least_values(ZERO_ABOVE);
+    least_values(EXCHANGED);
+    values(FORM(1, 1, -1, 1 + 0x1p-52));
+    values(FORM(0, 1, -1, -0.0));
+    double x[4], out[10];
+    least_block(LEFT, x);
+    values(x);
+    ours_block(x, out);
+    values(out);
+    values(FORM(0, 1, -1, NAN));
+    values(FORM(0, NAN, -1, 0));
+    seed(1);
+    readings(1000000);
+}
 
 // ---- moduli
 
@@ -408,12 +524,13 @@ static void vectors(int n, const double *by_rows) {
     columns("dtrevc3", n, them);
 }
 
-#define FORM(...) ((double[]){__VA_ARGS__})
-
 int main(int argc, char **argv) {
     if (argc == 4) {
         seed(strtoull(argv[3], 0, 10));
-        void (*run)(long) = !strcmp(argv[1], "moduli") ? moduli : !strcmp(argv[1], "declines") ? declines : exchanges;
+        void (*run)(long) = !strcmp(argv[1], "moduli")     ? moduli
+                            : !strcmp(argv[1], "declines") ? declines
+                            : !strcmp(argv[1], "readings") ? readings
+                                                           : exchanges;
         run(strtol(argv[2], 0, 10));
         return 0;
     }
@@ -421,6 +538,7 @@ int main(int argc, char **argv) {
         fprintf(stderr, "differences: see the head of differences.c\n");
         return 2;
     }
+    two_readings();
     stock();
 
     rotation(0, 1);

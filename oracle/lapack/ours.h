@@ -1,8 +1,18 @@
-// Our calls as the programs here use them, results in one array each. The only place that knows how
-// the archive's calls are written.
+// Our calls as the programs here use them, results in one array each, and when two of these are the
+// same. The only place that knows how the archive's calls are written.
 #ifndef OURS_H
 #define OURS_H
 #include "../../bindings/c/volmeixi.h"
+#include <math.h>
+#include <string.h>
+
+// Bit for bit; any NaN equals any NaN.
+static inline int same(const double *x, const double *y, int n) {
+    for (int i = 0; i < n; i++)
+        if (memcmp(x + i, y + i, 8) && !(isnan(x[i]) && isnan(y[i])))
+            return 0;
+    return 1;
+}
 
 // c s r
 static inline void ours_rotg(double p, double q, double *out) { vx_rotg(p, q, out, out + 1, out + 2); }
@@ -37,6 +47,14 @@ static inline size_t ours_move_at(size_t n, size_t ld, double *t, size_t tlen, d
 // the same with the stride n
 static inline size_t ours_move(size_t n, double *t, double *u, size_t from, size_t to, size_t *out) {
     return ours_move_at(n, n, t, n * n, u, u ? n * n : 0, from, to, out);
+}
+
+// re im re im of the form of rows (a b) and (c d): of a copy standardised first, or as it stands,
+// which is how partial_schur_real_imp reads it
+static inline void ours_values(int standardised, const double *x, double *out) {
+    double t[4] = {x[0], x[2], x[1], x[3]}, re[2], im[2];
+    (standardised ? vx_standardised_values : vx_block_values)(2, 2, t, 4, re, 2, im, 2);
+    out[0] = re[0], out[1] = im[0], out[2] = re[1], out[3] = im[1];
 }
 
 static inline size_t ours_vectors(size_t n, const double *t, double *v) {

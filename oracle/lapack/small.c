@@ -37,13 +37,6 @@ double dlapy2_(const double *x, const double *y) {
     return theirs(x, y);
 }
 
-static int same(const double *x, const double *y, int n) {
-    for (int i = 0; i < n; i++)
-        if (memcmp(x + i, y + i, 8) && !(isnan(x[i]) && isnan(y[i])))
-            return 0;
-    return 1;
-}
-
 static void print(const char *who, const double *x, int n) {
     printf("%s", who);
     for (int i = 0; i < n; i++)
@@ -134,37 +127,14 @@ static void report(const char *name, int n) {
     memset(differ, 0, sizeof differ);
 }
 
-static double number(int style) {
-    uint64_t r = next();
-    double x;
-    switch (style) {
-    case 0: // small whole numbers and both zeros
-        x = (double)(r % 7) - 3;
-        return x == 0 && r & 0x100 ? -x : x;
-    case 1: // halves
-        return ((double)(r % 33) - 16) * 0.5;
-    case 2: // middling
-        return ldexp((double)(int64_t)r * 0x1p-63, (int)(next() % 21) - 10);
-    case 3: // any finite
-        do {
-            r = next();
-            memcpy(&x, &r, 8);
-        } while (!isfinite(x));
-        return x;
-    default: // any bits, one in eight not finite
-        memcpy(&x, &r, 8);
-        return next() % 8 ? x : next() % 2 ? NAN : next() % 2 ? INFINITY : -INFINITY;
-    }
-}
-
-static const char *styles[] = {"whole", "halves", "middling", "finite", "any"};
+static const char *styles[STYLES] = {"whole", "halves", "middling", "finite", "any"};
 
 static void random_cases(int blocks, long count) {
     double x[12];
-    for (int style = 0; style < 5; style++) {
+    for (int style = 0; style < STYLES; style++) {
         for (long k = 0; k < count; k++) {
             for (int i = 0; i < 12; i++)
-                x[i] = number(style);
+                x[i] = styled(style);
             one(x, blocks);
         }
         report(styles[style], blocks ? 4 : 12);

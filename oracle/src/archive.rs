@@ -5,6 +5,8 @@ use crate::calls;
 use crate::record::Record;
 use crate::stride;
 
+type Values = unsafe extern "C" fn(usize, usize, *const f64, usize, *mut f64, usize, *mut f64, usize) -> usize;
+
 /// What a result holds before a call: no result, and not a NaN.
 const UNWRITTEN: u64 = 0x4c0f_fee4_c0ff_ee77;
 
@@ -55,7 +57,8 @@ fn run(case: &Record) -> Option<Record> {
         "lasy2" => solve(case)?,
         "schur_swap" => exchange(case)?,
         "reorder_schur" => reorder(case)?,
-        "block_values" => block_values(case)?,
+        "block_values" => values(case, vx_block_values()?),
+        "standardised_values" => values(case, vx_standardised_values()?),
         "evd_from_real_schur" => vectors(case)?,
         _ => return None,
     })
@@ -159,12 +162,13 @@ fn reorder(case: &Record) -> Option<Record> {
     Some(calls::counts(numbered(case, number), calls::MOVED, &[landed, swaps, declined]).list("t", t).list("u", u))
 }
 
-fn block_values(case: &Record) -> Option<Record> {
-    let (f, t) = (vx_block_values()?, Given::new(case, "t"));
+/// The values by one of the two readings, which take the same arguments.
+fn values(case: &Record, f: Values) -> Record {
+    let t = Given::new(case, "t");
     let (mut re, mut im) = (case.l("re").to_vec(), case.l("im").to_vec());
     let (n, ld) = (case.n("n"), stride::of(case));
     let number = unsafe { f(n, ld, t.first(), t.len(), re.as_mut_ptr(), re.len(), im.as_mut_ptr(), im.len()) };
-    Some(t.checked(numbered(case, number).list("re", re).list("im", im)))
+    t.checked(numbered(case, number).list("re", re).list("im", im))
 }
 
 fn vectors(case: &Record) -> Option<Record> {

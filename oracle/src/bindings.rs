@@ -47,5 +47,6 @@ archive! {
     vx_schur_swap(usize, usize, Write, usize, Write, usize, usize, usize, usize, Count, Count) -> usize;
     vx_reorder_schur(usize, usize, Write, usize, Write, usize, usize, usize, Count, Count, Count) -> usize;
     vx_block_values(usize, usize, Read, usize, Write, usize, Write, usize) -> usize;
+    vx_standardised_values(usize, usize, Read, usize, Write, usize, Write, usize) -> usize;
     vx_evd_from_real_schur(usize, usize, Read, usize, Write, usize) -> usize;
 }

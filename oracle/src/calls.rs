@@ -61,7 +61,8 @@ fn run(case: &Record) -> Record {
         "lasy2" => solve(case),
         "schur_swap" => exchange(case),
         "reorder_schur" => reorder(case),
-        "block_values" => block_values(case),
+        "block_values" => values(case, as_they_stand),
+        "standardised_values" => values(case, standardised),
         "evd_from_real_schur" => vectors(case),
         "column" => column(case),
         "sheet" => Record::new(case.call).with("text", Value::Bytes(sheet::run(case.bytes("text")))),
@@ -148,19 +149,44 @@ fn reorder(case: &Record) -> Record {
     counts(numbered(case, passed), MOVED, &results).list("t", t).list("u", u)
 }
 
-fn block_values(case: &Record) -> Record {
+/// The values of a form's blocks, by a reading of n rows.
+fn values(case: &Record, read: fn(usize, &[f64]) -> Vec<(f64, f64)>) -> Record {
     let (n, t) = (case.n("n"), case.l("t"));
     let (mut re, mut im) = (case.l("re").to_vec(), case.l("im").to_vec());
-    let passed = refuse::block_values(n, t, &re, &im);
+    let passed = refuse::values(n, t, &re, &im);
     if passed.is_ok() {
-        let form = MatRef::from_slice(t, n, n);
-        let mut values = vec![Complex::new(0.0, 0.0); n];
-        let mut unused = vec![Complex::new(0.0, 0.0); n * n];
-        eigen::block_values(form, form, &mut values, MatMut::from_slice(&mut unused, n, n));
-        re = values.iter().map(|z| z.re).collect();
-        im = values.iter().map(|z| z.im).collect();
+        (re, im) = read(n, t).into_iter().unzip();
     }
     numbered(case, passed).list("re", re).list("im", im)
+}
+
+/// Blocks as they stand: the Rust's own reading.
+fn as_they_stand(n: usize, t: &[f64]) -> Vec<(f64, f64)> {
+    let form = MatRef::from_slice(t, n, n);
+    let mut values = vec![Complex::new(0.0, 0.0); n];
+    let mut unused = vec![Complex::new(0.0, 0.0); n * n];
+    eigen::block_values(form, form, &mut values, MatMut::from_slice(&mut unused, n, n));
+    values.iter().map(|z| (z.re, z.im)).collect()
+}
+
+/// Note 5 of document 02: a 1-block reads as before. A copy of a 2-block is standardised, and gives
+/// its two diagonal numbers: with +0 beside each if c came out zero, else with the size and then its
+/// negative.
+fn standardised(n: usize, t: &[f64]) -> Vec<(f64, f64)> {
+    let at = |i: usize, j: usize| t[i + n * j];
+    let mut values = Vec::new();
+    while values.len() < n {
+        let i = values.len();
+        if i + 1 == n || at(i + 1, i) == 0.0 {
+            values.push((at(i, i), 0.0));
+            continue;
+        }
+        let ((a, _, c, d), (_, size), ..) =
+            leaves::lahqr_schur22(at(i, i), at(i, i + 1), at(i + 1, i), at(i + 1, i + 1));
+        note::pair(c);
+        values.extend(if c == 0.0 { [(a, 0.0), (d, 0.0)] } else { [(a, size), (d, -size)] });
+    }
+    values
 }
 
 fn vectors(case: &Record) -> Record {
@@ -241,7 +267,7 @@ mod tests {
     /// With the stride n all is as without one, refusals too.
     #[test]
     fn stride_n_changes_nothing() {
-        for call in ["schur_swap", "reorder_schur", "block_values", "evd_from_real_schur", "column"] {
+        for (_, call) in stride::CALLS {
             for index in 0..3000 {
                 let case = generate::case(call, 5, index, USUAL);
                 let (answer, strided) = (answer(&case).0, answer(&stride::of_n(&case)).0);

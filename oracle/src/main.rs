@@ -9,6 +9,7 @@ mod generate;
 mod modulus;
 mod note;
 mod picked;
+mod picked_blocks;
 mod picked_forms;
 mod picked_moduli;
 mod picked_strides;

@@ -1,4 +1,5 @@
-//! What a run of the Rust leaves behind beside its buffers: swaps, declines, splits, the row.
+//! What a run of the Rust leaves behind beside its buffers: swaps, declines, splits, the row, how
+//! 2-blocks were read.
 
 use std::cell::Cell;
 
@@ -12,10 +13,16 @@ pub struct Notes {
     pub splits: usize,
     /// Where the moved block stands.
     pub here: usize,
+    /// 2-blocks whose copies came out of standardising with c zero, with c not zero, and with c a NaN.
+    pub real: usize,
+    pub complex: usize,
+    pub odd: usize,
 }
 
 thread_local! {
-    static NOTES: Cell<Notes> = const { Cell::new(Notes { swaps: 0, declined: 0, splits: 0, here: 0 }) };
+    static NOTES: Cell<Notes> = const {
+        Cell::new(Notes { swaps: 0, declined: 0, splits: 0, here: 0, real: 0, complex: 0, odd: 0 })
+    };
 }
 
 fn change(f: impl Fn(&mut Notes)) {
@@ -50,4 +57,13 @@ pub fn split() {
 
 pub fn here(row: usize) {
     change(|n| n.here = row);
+}
+
+/// A 2-block's copy standardised, by its c.
+pub fn pair(c: f64) {
+    change(|n| match c {
+        _ if c.is_nan() => n.odd += 1,
+        _ if c == 0.0 => n.real += 1,
+        _ => n.complex += 1,
+    });
 }

@@ -33,7 +33,7 @@ fn solve(call: &'static str, [tl, tr, b]: [[f64; 4]; 3]) -> Record {
 
 /// Every branch, NaN and infinity in every place, all entries against each other beside the
 /// diagonal, and the branches at scales that are rescaled once, twice and to the last round.
-fn blocks() -> Vec<[f64; 4]> {
+pub fn blocks() -> Vec<[f64; 4]> {
     let mut blocks = vec![[5.0, 0.0, 2.0, 7.0], [0.0, 1.0, -1.0, 0.0], [1.0, 2.0, 0.0, 3.0], [1.0, 2.0, -0.0, 3.0]];
     blocks.push([1.0, -0.0, 2.0, 3.0]);
     let bases = [[1.0, 2.0, 3.0, 4.0], [1.0, 2.0, -3.0, 1.5], [2.0, 1.0, -1.0, 2.0], [1.0, 1.0, -0.25, 2.0]];

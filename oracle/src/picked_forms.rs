@@ -5,6 +5,7 @@ use crate::generate::floats::next_up;
 use crate::generate::{self, Sizes};
 use crate::note::Notes;
 use crate::picked::ODD;
+use crate::picked_blocks;
 use crate::picked_strides;
 use crate::record::{Record, Value};
 use crate::stride;
@@ -28,7 +29,8 @@ pub fn picked(call: &'static str) -> Vec<Record> {
     match call {
         "reorder_schur" => moves(),
         "schur_swap" => exchanges(),
-        "block_values" => values(),
+        "block_values" => values(call, kinds()),
+        "standardised_values" => values(call, picked_blocks::forms()),
         "evd_from_real_schur" => vectors(),
         "column" => columns(),
         _ => picked_strides::picked(call),
@@ -158,7 +160,7 @@ pub fn spoilt(case: Record, line: usize) -> Record {
         (17, _) => case.num_set("ld", stride::MOST + 1),
         (2, _) => case.num_set("n", TOO_MANY),
         (3, _) => list_set(case, "t", |t| t.push(7.0)),
-        (4, "block_values") => list_set(case, "im", |im| im.push(7.0)),
+        (4, "block_values" | "standardised_values") => list_set(case, "im", |im| im.push(7.0)),
         (4, "evd_from_real_schur" | "column") => list_set(case, "v", |v| v.push(7.0)),
         (4, _) => list_set(case, "u", |u| u.truncate(3)),
         (5, _) => list_set(case, "t", |t| t[3] = -1.0),
@@ -404,9 +406,9 @@ fn kinds() -> Vec<Vec<f64>> {
     forms
 }
 
-/// The kinds, the refusals, and no rows at all.
-fn on_forms(call: &'static str, further: &[&str]) -> Vec<Record> {
-    let mut cases: Vec<Record> = kinds().into_iter().map(|t| of_form(call, t)).filter(accepted).collect();
+/// The forms, the refusals, and no rows at all.
+fn on_forms(call: &'static str, forms: Vec<Vec<f64>>, further: &[&str]) -> Vec<Record> {
+    let mut cases: Vec<Record> = forms.into_iter().map(|t| of_form(call, t)).filter(accepted).collect();
     let base = of_form(call, form(&[2, 1, 1]));
     cases.extend(refusals(&base, &[2, 3, 4, 5, 6]));
     cases.extend(sizes(&base));
@@ -418,7 +420,7 @@ fn on_forms(call: &'static str, further: &[&str]) -> Vec<Record> {
 
 fn vectors() -> Vec<Record> {
     let call = "evd_from_real_schur";
-    let mut cases = on_forms(call, &["v"]);
+    let mut cases = on_forms(call, kinds(), &["v"]);
     cases.extend((1..=20).flat_map(|n| drawn(call, n, 1, |_, _| true)));
     cases.push(of_form(call, form(&turns(33))));
     cases.extend(drawn(call, 63, 1, |c, _| (1..63).any(|i| c.l("t")[i + 63 * (i - 1)] != 0.0)));
@@ -427,9 +429,8 @@ fn vectors() -> Vec<Record> {
     cases
 }
 
-fn values() -> Vec<Record> {
-    let call = "block_values";
-    let mut cases = on_forms(call, &["re", "im"]);
+fn values(call: &'static str, forms: Vec<Vec<f64>>) -> Vec<Record> {
+    let mut cases = on_forms(call, forms, &["re", "im"]);
     cases.extend((1..=32).flat_map(|n| drawn(call, n, 1, |_, _| true)));
     cases.extend(drawn(call, 63, 1, |c, _| (1..63).any(|i| c.l("t")[i + 63 * (i - 1)] != 0.0)));
     cases.push(of_form(call, form(&twos(64))));
@@ -467,6 +468,7 @@ mod tests {
             (a_move(form(&[2, 1, 1]), unit(4), 3, 0), vec![2, 3, 4, 5, 6, 7]),
             (an_exchange(form(&[2, 1, 1]), unit(4), 0, 2, 1), vec![2, 3, 4, 5, 6, 7, 8, 9, 10]),
             (of_form("block_values", form(&[2, 1, 1])), vec![2, 3, 4, 5, 6]),
+            (of_form("standardised_values", form(&[2, 1, 1])), vec![2, 3, 4, 5, 6]),
             (of_form("evd_from_real_schur", form(&[2, 1, 1])), vec![2, 3, 4, 5, 6]),
         ];
         for (base, mut lines) in bases {

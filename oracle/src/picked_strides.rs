@@ -2,6 +2,7 @@
 //! stand beyond the corners, and every refusal.
 
 use crate::note::Notes;
+use crate::picked_blocks;
 use crate::picked_forms::*;
 use crate::record::{Record, Value};
 use crate::stride::{self, MOST, SQUARES};
@@ -30,6 +31,7 @@ pub fn picked(call: &'static str) -> Vec<Record> {
         "reorder_schur_ld" => moves(),
         "schur_swap_ld" => exchanges(),
         "block_values_ld" => on_forms("block_values"),
+        "standardised_values_ld" => standardised_values(),
         "evd_from_real_schur_ld" => on_forms("evd_from_real_schur"),
         "column_ld" => columns(),
         _ => Vec::new(),
@@ -198,6 +200,15 @@ fn on_forms(call: &'static str) -> Vec<Record> {
     cases
 }
 
+/// The same, and forms with the chosen 2-blocks.
+fn standardised_values() -> Vec<Record> {
+    let call = "standardised_values";
+    let mut cases = on_forms(call);
+    cases.extend(picked_blocks::in_twos(&picked_blocks::each()).into_iter().map(|t| spread(&of_form(call, t), 7)));
+    cases.push(spread(&of_form(call, picked_blocks::large()), TOO_MANY));
+    cases
+}
+
 // ---- columns
 
 fn columns() -> Vec<Record> {
@@ -225,6 +236,7 @@ mod tests {
             ("reorder_schur_ld", &[7][..]),
             ("schur_swap_ld", &[7, 8, 9, 10]),
             ("block_values_ld", &[]),
+            ("standardised_values_ld", &[]),
             ("evd_from_real_schur_ld", &[]),
         ];
         for (call, further) in calls {

@@ -30,6 +30,9 @@ const fn call(name: &'static str, given: &'static [(&'static str, Kind)]) -> Cal
 
 const X: &[(&str, Kind)] = &[("x", Kind::Float)];
 const PQ: &[(&str, Kind)] = &[("p", Kind::Float), ("q", Kind::Float)];
+const VALUES: &[(&str, Kind)] = &[("n", Kind::Num), ("t", Kind::List), ("re", Kind::List), ("im", Kind::List)];
+const VALUES_LD: &[(&str, Kind)] =
+    &[("n", Kind::Num), ("ld", Kind::Num), ("t", Kind::List), ("re", Kind::List), ("im", Kind::List)];
 
 pub const CALLS: &[Call] = &[
     call("abs", X),
@@ -64,7 +67,8 @@ pub const CALLS: &[Call] = &[
         "reorder_schur",
         &[("n", Kind::Num), ("t", Kind::List), ("u", Kind::List), ("from", Kind::Num), ("to", Kind::Num)],
     ),
-    call("block_values", &[("n", Kind::Num), ("t", Kind::List), ("re", Kind::List), ("im", Kind::List)]),
+    call("block_values", VALUES),
+    call("standardised_values", VALUES),
     call("evd_from_real_schur", &[("n", Kind::Num), ("t", Kind::List), ("v", Kind::List)]),
     call("column", &[("n", Kind::Num), ("v", Kind::List), ("col", Kind::Num)]),
     call("sheet", &[("text", Kind::Bytes)]),
@@ -91,10 +95,8 @@ pub const CALLS: &[Call] = &[
             ("to", Kind::Num),
         ],
     ),
-    call(
-        "block_values_ld",
-        &[("n", Kind::Num), ("ld", Kind::Num), ("t", Kind::List), ("re", Kind::List), ("im", Kind::List)],
-    ),
+    call("block_values_ld", VALUES_LD),
+    call("standardised_values_ld", VALUES_LD),
     call("evd_from_real_schur_ld", &[("n", Kind::Num), ("ld", Kind::Num), ("t", Kind::List), ("v", Kind::List)]),
     call("column_ld", &[("n", Kind::Num), ("ld", Kind::Num), ("v", Kind::List), ("col", Kind::Num)]),
 ];

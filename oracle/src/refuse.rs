@@ -62,7 +62,8 @@ pub fn exchange(n: usize, t: &[f64], u: &[f64], j0: usize, n1: usize, n2: usize)
     line(10, across(j0) || across(j0 + n1) || across(j0 + n1 + n2))
 }
 
-pub fn block_values(n: usize, t: &[f64], re: &[f64], im: &[f64]) -> Passed {
+/// Of values by either reading.
+pub fn values(n: usize, t: &[f64], re: &[f64], im: &[f64]) -> Passed {
     size(n, MOST_ROWS)?;
     square(n, n, t)?;
     line(4, re.len() != n || im.len() != n)?;

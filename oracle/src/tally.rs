@@ -1,6 +1,6 @@
 //! Counts over many cases: how many, how many of each answer, how many split or declined, of
-//! exchanges how many counted so many swaps, which strides and numbers beyond the corners there were, and
-//! which tails of reflections.
+//! exchanges how many counted so many swaps, which strides and numbers beyond the corners there were,
+//! which tails of reflections, and how 2-blocks were read.
 
 use crate::generate::tails;
 use crate::note::Notes;
@@ -17,7 +17,8 @@ pub struct Tally {
     pub declined: u64,
     /// Accepted exchanges by their swaps.
     pub exchanges: BTreeMap<usize, u64>,
-    /// Cases with a stride by what `stride::classes` tells, of reflections what `tails::classes` does.
+    /// Cases with a stride by what `stride::classes` tells, of reflections what `tails::classes` does,
+    /// of standardised values what `pairs` does.
     pub classes: BTreeMap<&'static str, u64>,
 }
 
@@ -37,8 +38,14 @@ impl Tally {
             call if stride::taken_by(call) => stride::classes(case, answer),
             _ => Vec::new(),
         };
-        classes.into_iter().for_each(|class| *self.classes.entry(class).or_default() += 1);
+        classes.into_iter().chain(pairs(notes)).for_each(|class| *self.classes.entry(class).or_default() += 1);
     }
+}
+
+/// How 2-blocks were read whose copies were standardised first.
+fn pairs(notes: &Notes) -> impl Iterator<Item = &'static str> {
+    let read = [(notes.real, "a real pair"), (notes.complex, "a complex pair"), (notes.odd, "a pair with NaN c")];
+    read.into_iter().filter(|(count, _)| *count > 0).map(|(_, class)| class)
 }
 
 /// The answer's number; for a sheet, the one it prints.

@@ -39,6 +39,8 @@ const STORED: &[(&str, u64)] = &[
     ("block_values_ld", 60),
     ("evd_from_real_schur_ld", 60),
     ("column_ld", 60),
+    ("standardised_values", 60),
+    ("standardised_values_ld", 60),
 ];
 
 const SEED: u64 = 1;

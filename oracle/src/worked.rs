@@ -105,6 +105,29 @@ fn a_sign_that_is_not_one() {
     same(r.f("head"), -(sign * r.f("norm")));
 }
 
+/// Note 5 of document 02: the real pair in its order, with +0 beside each, or the complex pair; the
+/// diagonal numbers of an already standardised block as they are, zeros of unlike sign too.
+#[test]
+fn standardised_values() {
+    let of = |a: f64, b: f64, c: f64, d: f64| {
+        let (t, lent) = (words(&[a, c, b, d]), words(&[9.0; 2]));
+        let values = answer(&format!("standardised_values n=2 t={t} re={lent} im={lent}"));
+        assert_eq!(values.n("answer"), 0);
+        [values.l("re")[0], values.l("im")[0], values.l("re")[1], values.l("im")[1]]
+    };
+    let same_all = |x: [f64; 4], y: [f64; 4]| x.iter().zip(&y).for_each(|(x, y)| same(*x, *y));
+    same_all(of(5.0, 0.0, 2.0, 7.0), [7.0, 0.0, 5.0, 0.0]);
+    same_all(of(0.0, 1.0, 1.0, 0.0), [1.0, 0.0, -1.0, 0.0]);
+    same_all(of(0.0, 1.0, -1.0, 0.0), [0.0, 1.0, 0.0, -1.0]);
+    same_all(of(0.0, 4.0, -1.0, -0.0), [0.0, 2.0, -0.0, -2.0]);
+    same_all(of(-2.0, -1.0, 1.0, 0.0), [-1.0, 0.0, -1.0, -0.0]);
+    same_all(of(3.0, 4.0, -0.0, 5.0), [3.0, 0.0, 5.0, 0.0]);
+    let nan = of(0.0, 1.0, f64::NAN, -0.0);
+    same(nan[0], 0.0);
+    same(nan[2], -0.0);
+    assert!(nan[1].is_nan() && nan[3].is_nan());
+}
+
 const SHEET: &str = "n=2\nfrom=0\nto=1\n\
     t=3ff0000000000000 0000000000000000 0000000000000000 4000000000000000\n\
     u=3ff0000000000000 0000000000000000 0000000000000000 3ff0000000000000\n";

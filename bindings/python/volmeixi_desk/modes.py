@@ -1,6 +1,7 @@
-"""The modes of a form, by the proved calls vx_block_values and vx_evd_from_real_schur.
+"""The modes of a form, by the proved calls vx_standardised_values and vx_evd_from_real_schur.
 
-A mode goes as exp(value * time). A 1-block is one mode; a 2-block is a pair of conjugate values.
+A mode goes as exp(value * time). A 1-block is one mode. A 2-block is read off a copy that is
+standardised first: it is one mode, a pair of conjugate values, or two with real values.
 """
 
 import math
@@ -9,24 +10,35 @@ from typing import NamedTuple
 from .texts import Complaint
 
 
-class Mode(NamedTuple):
-    """A block, its value re + i im (im 0 or above; a pair has the conjugate too), and its vector.
+class Block(NamedTuple):
+    """A block's first row and size, and its columns of the vectors of the form as it stands: a
+    1-block's vector, or a 2-block's real and imaginary part.
 
-    imaginary is None for a single row. standard is False for a 2-block whose diagonal numbers
-    differ or whose other two have one sign: its value is then not read off as its spectrum.
+    standard is False for a 2-block whose diagonal numbers differ or whose other two do not have
+    unlike signs: its columns need not be vectors of its modes, nor those of the blocks below it.
     """
 
     row: int
     size: int
-    re: float
-    im: float
-    real: list
-    imaginary: list
+    columns: list
     standard: bool
 
     @property
     def rows(self):
         return str(self.row) if self.size == 1 else f"{self.row}, {self.row + 1}"
+
+
+class Mode(NamedTuple):
+    """A block, and its value re + i im. Where im is not 0 (above it, or a NaN) the mode is a pair,
+    and has the conjugate too."""
+
+    block: Block
+    re: float
+    im: float
+
+    @property
+    def pair(self):
+        return not self.im == 0
 
     @property
     def decay(self):
@@ -70,20 +82,27 @@ def first_row(n, form, row):
 
 
 def modes_of(n, form):
-    """The modes of an accepted form, in the order in which they stand."""
+    """The modes of an accepted form, in the order in which they stand; a block's, as they come out."""
     vx = calls()
-    re, im = vx.block_values(form)
+    re, im = vx.standardised_values(form)
     v = vx.evd_from_real_schur(form)
-    vectors = [list(v[n * j : n * j + n]) for j in range(n)]
     modes, j = [], 0
     while j < n:
-        if j + 1 < n and not form[j + 1 + n * j] == 0:
-            modes.append(Mode(j, 2, re[j], im[j], vectors[j], vectors[j + 1], _standard(n, form, j)))
-            j += 2
-        else:
-            modes.append(Mode(j, 1, re[j], im[j], vectors[j], None, True))
-            j += 1
+        size = 2 if j + 1 < n and not form[j + 1 + n * j] == 0 else 1
+        columns = [list(v[n * k : n * k + n]) for k in range(j, j + size)]
+        block = Block(j, size, columns, size == 1 or _standard(n, form, j))
+        own = [Mode(block, re[k], im[k]) for k in range(j, j + size)]
+        modes += own[:1] if own[0].pair else own
+        j += size
     return modes
+
+
+def blocks_of(modes):
+    """The blocks of modes in order, each with the numbers of its modes, counted from 1."""
+    found = {}
+    for k, mode in enumerate(modes, 1):
+        found.setdefault(mode.block.row, (mode.block, []))[1].append(k)
+    return list(found.values())
 
 
 def through(n, factor, vector):

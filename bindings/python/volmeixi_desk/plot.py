@@ -77,7 +77,7 @@ def points_of(modes):
     """Each point of the plane with the numbers of the modes that stand there: (re, im) to numbers."""
     points = {}
     for k, mode in enumerate(modes, 1):
-        for im in (mode.im, -mode.im) if mode.size == 2 else (0.0,):
+        for im in (mode.im, -mode.im) if mode.pair else (0.0,):
             if drawn(mode):
                 numbers = points.setdefault((mode.re, im + 0.0), [])
                 if k not in numbers:
@@ -123,7 +123,7 @@ def axes(panel, title):
 def dots(panel, modes, moved):
     """The points, then their labels: a number stands at both values of a pair."""
     points, out = points_of(modes), []
-    star = {k for k, mode in enumerate(modes, 1) if mode.row == moved}
+    star = {k for k, mode in enumerate(modes, 1) if mode.block.row == moved}
     for re, im in points:
         x, y = panel.x(re), panel.y(im)
         panel.taken.append((x - 6, y - 6, x + 6, y + 6))
@@ -140,11 +140,11 @@ def dots(panel, modes, moved):
 
 
 def value(mode):
-    return label(mode.re) + (f" \u00b1 {label(mode.im)}i" if mode.size == 2 else "")
+    return label(mode.re) + (f" \u00b1 {label(mode.im)}i" if mode.pair else "")
 
 
 def entry(mode):
-    rows = ("row " if mode.size == 1 else "rows ") + mode.rows.replace(", ", "\u2013")
+    rows = ("row " if mode.block.size == 1 else "rows ") + mode.block.rows.replace(", ", "\u2013")
     return f"{rows}: {value(mode)}" + ("" if drawn(mode) else " (not drawn)")
 
 
@@ -155,7 +155,7 @@ def legend(left, modes, moved):
     out, top = [], TOP + PANEL + 66
     for k, (mode, words) in enumerate(zip(modes, entries)):
         x, y = left + (PANEL / 2 + 4) * (k // half), top + 18 * (k % half)
-        colour = MOVED if mode.row == moved else INK
+        colour = MOVED if mode.block.row == moved else INK
         out.append(text(x + 14, y, str(k + 1), 11.5, colour, "end", ' font-weight="bold"'))
         out.append(text(x + 21, y, words, 11.5, colour, "start"))
     return out, top + 18 * half

@@ -1,6 +1,6 @@
 """Requests and sheets as text in decimals: the form with its blocks marked, the modes, the vectors."""
 
-from .modes import first_row, modes_of, through
+from .modes import blocks_of, first_row, modes_of, through
 from .texts import ANSWERS, Sheet, count
 
 WIDTH = 100  # characters of a line, beyond which a matrix goes on below
@@ -44,10 +44,12 @@ def _panels(cells, heads, rows):
     return [line for k, panel in enumerate(panels) for line in ([""] if k else []) + panel]
 
 
-def form_lines(n, form, modes, digits):
+def form_lines(n, form, blocks, digits):
     """The form as a matrix: a block stands in brackets, a zero below the diagonal is a dot."""
-    last = {row: mode.row + mode.size - 1 for mode in modes for row in range(mode.row, mode.row + mode.size)}
-    first = {row: mode.row for mode in modes for row in range(mode.row, mode.row + mode.size)}
+    first, last = {}, {}
+    for block in blocks:
+        for row in range(block.row, block.row + block.size):
+            first[row], last[row] = block.row, block.row + block.size - 1
     shown = [[decimal(form[i + n * j], digits) for j in range(n)] for i in range(n)]
     wide = max(len(shown[i][j]) for i in range(n) for j in range(n))
     cells = []
@@ -80,13 +82,13 @@ def _pace(mode, digits):
 def mode_lines(modes, moved, digits):
     rows = []
     for k, mode in enumerate(modes, 1):
-        imaginary = "0" if mode.size == 1 else "+-" + decimal(mode.im, digits)
+        imaginary = "+-" + decimal(mode.im, digits) if mode.pair else "0"
         period = "-" if mode.period is None else decimal(mode.period, digits)
-        mark = "*" if mode.row == moved else ""
+        mark = "*" if mode.block.row == moved else ""
         rows.append(
             [
                 str(k) + mark,
-                mode.rows,
+                mode.block.rows,
                 decimal(mode.re, digits),
                 imaginary,
                 decimal(mode.decay, digits),
@@ -94,26 +96,34 @@ def mode_lines(modes, moved, digits):
                 period,
             ]
         )
-    lines = _table(["mode", "rows", "real", "imaginary", "decay", "half-life", "period"], rows, "<<>>>>>")
-    return lines + [
-        f"The 2-block in rows {mode.rows} is not standardised (its diagonal numbers differ, or its other two have "
-        "one sign): what is read off it is not its spectrum."
-        for mode in modes
-        if not mode.standard
+    return _table(["mode", "rows", "real", "imaginary", "decay", "half-life", "period"], rows, "<<>>>>>")
+
+
+def raw_lines(modes):
+    """What is said of values and vectors where a 2-block is not standardised."""
+    raw = [(block, numbers) for block, numbers in blocks_of(modes) if not block.standard]
+    lines = [
+        f"The 2-block in rows {block.rows} is not standardised (its diagonal numbers differ, or its other "
+        "two do not have unlike signs): its values are those of a copy that is standardised first."
+        for block, _ in raw
     ]
+    if raw:
+        lines.append(
+            f"The vectors are those of the form as it stands: from mode {raw[0][1][0]} on they need not be "
+            "vectors of these modes. A move that exchanges a 2-block with a neighbour standardises it."
+        )
+    return lines
 
 
 def vector_lines(n, modes, factor, digits):
-    """A column for each mode, two for a pair: real and imaginary part. Below its block, dots."""
+    """A column for each row: a 2-block has two, real and imaginary part. Below its block, dots."""
     heads, columns = [], []
-    for k, mode in enumerate(modes, 1):
-        parts = (
-            [(f"{k}", mode.real)] if mode.size == 1 else [(f"{k} re", mode.real), (f"{k} im", mode.imaginary)]
-        )
-        for head, vector in parts:
-            heads.append(head)
+    for block, numbers in blocks_of(modes):
+        own = ", ".join(map(str, numbers))
+        heads += [own] if block.size == 1 else [f"{own} re", f"{own} im"]
+        for vector in block.columns:
             if factor is None:
-                last = mode.row + mode.size
+                last = block.row + block.size
                 columns.append([decimal(x, digits) for x in vector[:last]] + ["."] * (n - last))
             else:
                 columns.append([decimal(x, digits) for x in through(n, factor, vector)])
@@ -139,16 +149,18 @@ def part_lines(part, digits, with_factor, through_factor):
             f"{'with a' if part.factor else 'without'} factor."
         ]
     modes = modes_of(part.n, part.form)
-    lines += ["", "Form (blocks in brackets):", ""] + form_lines(part.n, part.form, modes, digits)
+    blocks = [block for block, _ in blocks_of(modes)]
+    lines += ["", "Form (blocks in brackets):", ""] + form_lines(part.n, part.form, blocks, digits)
     if with_factor and part.factor:
         lines += ["", "Factor:", ""] + matrix_lines(part.n, part.factor, digits)
     star = "; * is the moved block" if moved is not None else ""
     lines += ["", f"Modes, in their order{star}:", ""] + mode_lines(modes, moved, digits)
+    lines += raw_lines(modes)
     factor = part.factor if through_factor and part.factor else None
     head = "Vectors, of the form" if factor is None else "Vectors, the factor times that of the form"
     pair = (
         " (a pair's: real and imaginary part, for +imaginary)"
-        if any(mode.size == 2 for mode in modes)
+        if any(block.size == 2 for block in blocks)
         else ""
     )
     return lines + ["", f"{head}{pair}:", ""] + vector_lines(part.n, modes, factor, digits)

@@ -78,6 +78,16 @@ extern "C" {
         im: *mut f64,
         im_len: usize,
     ) -> usize;
+    pub fn vx_standardised_values(
+        n: usize,
+        ld: usize,
+        t: *const f64,
+        t_len: usize,
+        re: *mut f64,
+        re_len: usize,
+        im: *mut f64,
+        im_len: usize,
+    ) -> usize;
     pub fn vx_evd_from_real_schur(n: usize, ld: usize, t: *const f64, t_len: usize, v: *mut f64, v_len: usize)
     -> usize;
 }

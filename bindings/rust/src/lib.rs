@@ -4,7 +4,9 @@
 //! Rows and columns count from 0; n is 1 to 64. A 2-block stands where the entry just below the
 //! diagonal, at (j + 1, j), is not zero (a NaN is not zero, minus zero is); all other rows are
 //! 1-blocks. A factor and vectors have the same layout. No number of a form is refused: NaN,
-//! infinities and subnormals are worked with.
+//! infinities and subnormals are worked with. A 2-block need not be standardised; [`block_values`]
+//! and [`evd_from_real_schur`] read it as it stands, [`standardised_values`] a copy of it that is
+//! standardised first.
 //!
 //! For a form in the corner of a larger array, [`View`] and [`ViewMut`] have the same calls with a
 //! stride, where row i, column j stands at i + stride × j. One stride, n to 128, serves all buffers
@@ -37,5 +39,5 @@ pub use blocks::{Eigenvalues, Standardised, Sylvester, lahqr_schur22, lasy2};
 pub use moves::{Exchanged, Moved, reorder_schur, schur_swap};
 pub use refusal::Refusal;
 pub use small::{JacobiRotation, Reflection, RotationWith, adjoint, apply, make_householder_in_place, rotg};
-pub use vectors::{block_values, column, evd_from_real_schur};
+pub use vectors::{block_values, column, evd_from_real_schur, standardised_values};
 pub use view::{View, ViewMut};

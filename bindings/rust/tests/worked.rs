@@ -152,6 +152,59 @@ fn exchanges_of_three_and_four_swaps() {
     assert_eq!(schur_swap(4, &mut t, None, 0, 2, 2), Ok(Exchanged { swaps: 3, declined: 0 }));
 }
 
+/// The values of the 2-block of rows (a, b) and (c, d), in rows 1 and 2 of a form of four: those of a
+/// block standardised by itself, bit for bit.
+fn values_of_a_copy(a: f64, b: f64, c: f64, d: f64) -> [(f64, f64); 2] {
+    let t = [7.0, 0.0, 0.0, 0.0, 3.0, a, c, 0.0, -3.0, b, d, 0.0, 5.0, 6.0, -6.0, -0.0];
+    let (mut re, mut im) = ([9.0; 4], [9.0; 4]);
+    standardised_values(4, &t, &mut re, &mut im).unwrap();
+    assert_eq!(bits(&[re[0], im[0], re[3], im[3]]), bits(&[7.0, 0.0, -0.0, 0.0]));
+    let (first, second) = match lahqr_schur22(a, b, c, d).eigenvalues {
+        Eigenvalues::Real(x, y) => ((x, 0.0), (y, 0.0)),
+        Eigenvalues::Complex(x, y, m) => ((x, m), (y, -m)),
+    };
+    for (x, y) in [(re[1], first.0), (im[1], first.1), (re[2], second.0), (im[2], second.1)] {
+        assert!(x.to_bits() == y.to_bits() || x.is_nan() && y.is_nan(), "{x} is not {y}");
+    }
+    [(re[1], im[1]), (re[2], im[2])]
+}
+
+#[test]
+fn values_of_blocks_that_are_not_standardised() {
+    let near = |x: f64, y: f64| assert!((x - y).abs() < 1e-14, "{x} is not near {y}");
+    // unequal diagonal numbers, once with a complex pair, once with a real one
+    let [(re, im), second] = values_of_a_copy(1.0, 2.0, -3.0, 4.0);
+    near(re, 2.5);
+    near(im, 3.75f64.sqrt());
+    assert_eq!(second, (re, -im));
+    let [(first, _), (second, _)] = values_of_a_copy(4.0, -2.0, -1.0, 3.0);
+    near(first, 5.0);
+    near(second, 2.0);
+    // one sign
+    let [(first, _), (second, _)] = values_of_a_copy(1.0, 2.0, 3.0, 1.0);
+    near(first, 1.0 + 6f64.sqrt());
+    near(second, 1.0 - 6f64.sqrt());
+    // b zero: the lower diagonal number comes first
+    assert_eq!(values_of_a_copy(1.0, -0.0, 5.0, 2.0), [(2.0, 0.0), (1.0, 0.0)]);
+    // -3 twice: the copy ends with b zero and c not
+    let [first, second] = values_of_a_copy(-4.0, -1.0, 1.0, -2.0);
+    assert_eq!(bits(&[first.0, first.1, second.0, second.1]), bits(&[-3.0, 0.0, -3.0, -0.0]));
+    // a NaN is not zero
+    let [(re, im), _] = values_of_a_copy(1.0, 2.0, f64::NAN, 1.0);
+    assert!(re == 1.0 && im.is_nan());
+}
+
+#[test]
+fn values_of_standardised_blocks_are_the_same() {
+    for t in [TURN, [0.5, 0.75, -3.0, 0.5], [1e300, 5e-324, -1e308, 1e300]] {
+        let mut parts = [[9.0; 2]; 4];
+        let [re, im, copy_re, copy_im] = &mut parts;
+        block_values(2, &t, re, im).unwrap();
+        standardised_values(2, &t, copy_re, copy_im).unwrap();
+        assert_eq!((bits(re), bits(im)), (bits(copy_re), bits(copy_im)));
+    }
+}
+
 #[test]
 fn eigenvectors() {
     let mut v = [9.0; 4];
@@ -205,8 +258,19 @@ fn exchanges_refused() {
 fn values_and_vectors_refused() {
     let mut buffers = ([9.0; 3], [9.0; 3]);
     let (re, im) = (&mut buffers.0, &mut buffers.1);
-    assert_eq!(block_values(2, &TURN, re, im), Err(Refusal::BufferLength));
-    assert_eq!(block_values(3, &TURN, re, im), Err(Refusal::FormLength));
+    let touching = [1.0, 1.0, 0.0, 0.0, 2.0, f64::NAN, 0.0, 0.0, 3.0];
+    let mut deep = touching;
+    deep[2] = f64::NAN;
+    for values in [block_values, standardised_values] {
+        assert_eq!(values(0, &[], re, im), Err(Refusal::Rows));
+        assert_eq!(values(65, &[0.0; 65 * 65], re, im), Err(Refusal::Rows));
+        assert_eq!(values(3, &TURN, re, im), Err(Refusal::FormLength));
+        assert_eq!(values(2, &TURN, re, im), Err(Refusal::BufferLength));
+        assert_eq!(values(2, &TURN, &mut re[1..], im), Err(Refusal::BufferLength));
+        assert_eq!(values(2, &TURN, re, &mut im[1..]), Err(Refusal::BufferLength));
+        assert_eq!(values(3, &deep, re, im), Err(Refusal::DeepEntry));
+        assert_eq!(values(3, &touching, re, im), Err(Refusal::Touching));
+    }
     assert_eq!(evd_from_real_schur(2, &TURN, re), Err(Refusal::BufferLength));
     assert_eq!(evd_from_real_schur(0, &[], im), Err(Refusal::Rows));
     assert_eq!(buffers, ([9.0; 3], [9.0; 3]));
@@ -245,13 +309,19 @@ fn moves_and_exchanges_at_a_stride() {
 #[test]
 fn values_and_vectors_at_a_stride() {
     let (mut re, mut im, mut v) = ([9.0; 6], [9.0; 6], [9.0; 36]);
-    block_values(6, &SIX, &mut re, &mut im).unwrap();
-    evd_from_real_schur(6, &SIX, &mut v).unwrap();
+    let mut six = SIX;
+    six[2 + 6] = 1.5; // a 2-block of one sign
+    evd_from_real_schur(6, &six, &mut v).unwrap();
     for stride in [6, 7, 12, 127, 128] {
-        let mut wide_t = spread(6, stride, &SIX);
+        let mut wide_t = spread(6, stride, &six);
         let form = ViewMut { n: 6, stride, numbers: &mut wide_t };
         let (mut wide_re, mut wide_im) = ([9.0; 6], [9.0; 6]);
+        block_values(6, &six, &mut re, &mut im).unwrap();
         form.view().block_values(&mut wide_re, &mut wide_im).unwrap();
+        assert_eq!((bits(&wide_re), bits(&wide_im)), (bits(&re), bits(&im)));
+        standardised_values(6, &six, &mut re, &mut im).unwrap();
+        assert_ne!(bits(&wide_re), bits(&re));
+        form.view().standardised_values(&mut wide_re, &mut wide_im).unwrap();
         assert_eq!((bits(&wide_re), bits(&wide_im)), (bits(&re), bits(&im)));
         let mut wide_v = spread(6, stride, &[9.0; 36]);
         form.view().evd_from_real_schur(&mut wide_v).unwrap();
@@ -259,7 +329,7 @@ fn values_and_vectors_at_a_stride() {
         for col in 0..6 {
             assert_eq!(View { n: 6, stride, numbers: &wide_v }.column(col), column(6, &v, col));
         }
-        assert_eq!(bits(&wide_t), bits(&spread(6, stride, &SIX)));
+        assert_eq!(bits(&wide_t), bits(&spread(6, stride, &six)));
     }
 }
 
@@ -274,6 +344,7 @@ fn refused_by_all(n: usize, stride: usize, lengths: [usize; 4]) -> Refusal {
     assert_eq!(refused(&t, &u, |_, v| form.evd_from_real_schur(v.unwrap())), refusal);
     let (re, im) = (vec![9.0; re_len], vec![9.0; im_len]);
     assert_eq!(refused(&re, &im, |re, im| form.block_values(re, im.unwrap())), refusal);
+    assert_eq!(refused(&re, &im, |re, im| form.standardised_values(re, im.unwrap())), refusal);
     refusal
 }
 

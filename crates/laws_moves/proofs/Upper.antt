@@ -35,7 +35,7 @@ or-right true b e = absurd (true≢false e)
 or-right false b e = e
 
 -- no number below n passes
-none-at : (n : ℕ) (p : ℕ → Bool) → some n p ≡ false → (i : ℕ) → i < n → p i ≡ false
+pub none-at : (n : ℕ) (p : ℕ → Bool) → some n p ≡ false → (i : ℕ) → i < n → p i ≡ false
 unfolding some
 none-at zero p e i h = absurd (omega arith)
 none-at (suc n) p e i h = go (eq-or-lt-of-le (le-of-suc-le-suc h)) (none-at n p (or-left (some n p) (p n) e))

@@ -8,7 +8,7 @@ use borrow.Author.Tests.{ltb-false, le-ltb}
 use Rattle.model.specs.Form.{line2, line17}
 use Rattle.model.specs.Exchange.{exchangeLine, exchangeCall}
 use Rattle.model.specs.Move.{moveLine, moveCall}
-use Rattle.model.specs.Values.{valuesLine, blockValues}
+use Rattle.model.specs.Values.{valuesLine, valuesRead}
 use Rattle.model.specs.Vectors.{vectorsLine, evdFromRealSchur, columnLine, columnOf}
 use Rattle.laws_stride.specs.Base.{StrideIsN, baseMove, baseExchange, baseValues, baseVectors, baseColumn}
 
@@ -28,7 +28,7 @@ skip n rest = go (eqb n 0) (ltb 64 n) (ltb-false 64 n)
     go false false h = let k = h refl in rw (stride-n n (omega arith))
 
 pub stride-is-n : StrideIsN
-unfolding moveCall moveLine baseMove exchangeCall exchangeLine baseExchange blockValues valuesLine baseValues evdFromRealSchur vectorsLine baseVectors columnOf columnLine baseColumn
+unfolding moveCall moveLine baseMove exchangeCall exchangeLine baseExchange valuesRead valuesLine baseValues evdFromRealSchur vectorsLine baseVectors columnOf columnLine baseColumn
 stride-is-n =
     record {
       move = λ f n t u from to. rw (skip n);

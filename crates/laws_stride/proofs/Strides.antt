@@ -6,6 +6,7 @@ use mathlib.Core.Bool.{false}
 use lib.Dec.{ltb}
 use borrow.Author.Tests.{ltb-false}
 use Rattle.model.specs.Form.{line17}
+use Rattle.model.specs.Values.{asItStands}
 use Rattle.laws_moves.proofs.Upper.{or-right, at-least}
 use Rattle.laws_stride.specs.Beyond.{RowsBeyond}
 use Rattle.laws_stride.specs.Strides.{Allowed, TwoStrides, LikeBase}
@@ -33,7 +34,7 @@ like-base =
     record {
       moves = λ f ld n a b u v from to h s t. rw (← stride-is-n .move f n b v from to) (moves f ld n n a b u v from to (with-n ld n h) s t);
       exchanges = λ f ld n a b u v j n1 n2 h s t. rw (← stride-is-n .exchange f n b v j n1 n2) (exchanges f ld n n a b u v j n1 n2 (with-n ld n h) s t);
-      values = λ f ld n a b s h r. same-values f ld n n a b s (with-n ld n h) r ∙ stride-is-n .values f n b s;
+      values = λ f ld n a b s h r. same-values f (asItStands f) ld n n a b s (with-n ld n h) r ∙ stride-is-n .values f n b s;
       vectors = λ f ld n a b v w h r s. rw (← stride-is-n .vectors f n b w) (same-vectors f ld n n a b v w (with-n ld n h) r s);
       column = λ ld n v w col h s. same-column ld n n v w col (with-n ld n h) s ∙ stride-is-n .column n w col;
     }

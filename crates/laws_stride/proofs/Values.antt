@@ -11,25 +11,25 @@ use lib.Seq.{length-take-le, getD-take, getD-drop, ext-getD}
 use lib.Ieee.{Float, nan, Format}
 use borrow.Author.Tests.{ltb-true}
 use Rattle.model.specs.Form.{at, line2, line3, line7}
-use Rattle.model.specs.Values.{Parts, oneValue, twoValues, valuesFrom, valuesLine, blockValues}
+use Rattle.model.specs.Values.{Reading, Parts, oneValue, twoValues, valuesFrom, valuesLine, valuesRead}
 use Rattle.model.specs.Vectors.{columnLine, columnOf}
 use Rattle.laws_moves.proofs.Upper.{at-least}
 use Rattle.laws_stride.specs.Strides.{Allowed, SameRows}
 use Rattle.laws_stride.proofs.Rowwise.{ReadsAs, nonzero-same, cell, same-at, rows-read}
 use Rattle.laws_stride.proofs.Lines.{full, line5-same, line6-same}
 
--- ---- the values
+-- ---- the values, by any reading
 
-module _ (f : Format) (ld md n : ℕ) {a b : List Float} (r : ReadsAs ld md n a b) where
+module _ (f : Format) (rd : Reading) (ld md n : ℕ) {a b : List Float} (r : ReadsAs ld md n a b) where
   same-one : (j : ℕ) (s : Parts) → j < n → oneValue f ld a j s ≡ oneValue f md b j s
   unfolding oneValue
   same-one j s h = rw (r .same j j h h)
 
-  same-two : (j : ℕ) (s : Parts) → j + 1 < n → twoValues f ld a j s ≡ twoValues f md b j s
+  same-two : (j : ℕ) (s : Parts) → j + 1 < n → twoValues f rd ld a j s ≡ twoValues f rd md b j s
   unfolding twoValues
-  same-two j s h = let k : j < n = omega arith in rw (r .same j j k k, r .same (j + 1) j h k, r .same j (j + 1) k h)
+  same-two j s h = let k : j < n = omega arith in rw (r .same j j k k, r .same j (j + 1) k h, r .same (j + 1) j h k, r .same (j + 1) (j + 1) h h)
 
-  same-from : (k j : ℕ) (s : Parts) → j + k ≤ n → valuesFrom f ld a k j s ≡ valuesFrom f md b k j s
+  same-from : (k j : ℕ) (s : Parts) → j + k ≤ n → valuesFrom f rd ld a k j s ≡ valuesFrom f rd md b k j s
   unfolding valuesFrom
   same-from zero j s h = refl
   same-from (suc zero) j s h = same-one j s (omega arith)
@@ -38,14 +38,14 @@ module _ (f : Format) (ld md n : ℕ) {a b : List Float} (r : ReadsAs ld md n a 
         nonzero-same f j (omega arith) r,
         same-one j s (omega arith),
         same-two j s (omega arith),
-        same-from k (j + 2) (twoValues f md b j s) (omega arith),
+        same-from k (j + 2) (twoValues f rd md b j s) (omega arith),
         same-from (suc k) (j + 1) (oneValue f md b j s) (omega arith),
       )
 
-pub same-values : (f : Format) (ld md n : ℕ) (a b : List Float) (s : Parts) → Allowed ld md n → SameRows ld md n a b → blockValues f ld n a s ≡ blockValues f md n b s
-unfolding blockValues valuesLine line3
-same-values f ld md n a b s w r =
-    rw (w .first, w .second, full ld n a (r .size), full md n b (r .size'), line5-same f ld md n (rows-read r), line6-same f ld md n (rows-read r), same-from f ld md n (rows-read r) n 0 s (omega arith))
+pub same-values : (f : Format) (rd : Reading) (ld md n : ℕ) (a b : List Float) (s : Parts) → Allowed ld md n → SameRows ld md n a b → valuesRead f rd ld n a s ≡ valuesRead f rd md n b s
+unfolding valuesRead valuesLine line3
+same-values f rd ld md n a b s w r =
+    rw (w .first, w .second, full ld n a (r .size), full md n b (r .size'), line5-same f ld md n (rows-read r), line6-same f ld md n (rows-read r), same-from f rd ld md n (rows-read r) n 0 s (omega arith))
 
 -- ---- a column
 

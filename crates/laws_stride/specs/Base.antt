@@ -10,7 +10,7 @@ use Rattle.model.specs.Lines.{firstOf}
 use Rattle.model.specs.Form.{rowCount, formLength, factorLength, bufferLength, deepEntry, touchingBlocks, position}
 use Rattle.model.specs.Exchange.{blockSizes, pastTheEnd, acrossEdges, exchange, Exchanged, exchanged, exchangeCall}
 use Rattle.model.specs.Move.{move, Moved, moved, moveCall}
-use Rattle.model.specs.Values.{Parts, BlockValues, valuesFrom, blockValues}
+use Rattle.model.specs.Values.{asItStands, Parts, BlockValues, valuesFrom, blockValues}
 use Rattle.model.specs.Vectors.{Vectors, vectorsOf, evdFromRealSchur, columnOf}
 
 unfoldable pub baseMove : Format → ℕ → List Float → List Float → ℕ → ℕ → Moved
@@ -40,7 +40,7 @@ unfoldable pub baseValues : Format → ℕ → List Float → Parts → BlockVal
 unfolding firstOf
 baseValues f n t s =
     let line = firstOf (rowCount n ∷ formLength n n t ∷ bufferLength (length (s .re)) n ∷ bufferLength (length (s .im)) n ∷ deepEntry f n n t ∷ touchingBlocks f n n t ∷ []) in
-    cond (eqb line 0) (record { answer = 0; parts = valuesFrom f n t n 0 s }) (record { answer = line; parts = s })
+    cond (eqb line 0) (record { answer = 0; parts = valuesFrom f (asItStands f) n t n 0 s }) (record { answer = line; parts = s })
 
 unfoldable pub baseVectors : Format → ℕ → List Float → List Float → Vectors
 unfolding firstOf

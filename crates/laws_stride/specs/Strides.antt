@@ -10,7 +10,7 @@ use lib.Ieee.{Float, Format}
 use Rattle.model.specs.Form.{entry, line17}
 use Rattle.model.specs.Exchange.{Exchanged, exchangeCall}
 use Rattle.model.specs.Move.{Moved, moveCall}
-use Rattle.model.specs.Values.{Parts, blockValues}
+use Rattle.model.specs.Values.{Reading, Parts, valuesRead, blockValues}
 use Rattle.model.specs.Vectors.{Vectors, evdFromRealSchur, columnOf}
 use Rattle.laws_stride.specs.Base.{baseMove, baseExchange, baseValues, baseVectors, baseColumn}
 
@@ -53,7 +53,8 @@ pub record TwoStrides : Type 0 where
       → SameMoved ld md n (moveCall f ld n a u from to) (moveCall f md n b v from to)
   pub exchanges : (f : Format) (ld md n : ℕ) (a b u v : List Float) (j n1 n2 : ℕ) → Allowed ld md n → SameRows ld md n a b → SameFactor ld md n u v
       → SameExchanged ld md n (exchangeCall f ld n a u j n1 n2) (exchangeCall f md n b v j n1 n2)
-  pub values : (f : Format) (ld md n : ℕ) (a b : List Float) (s : Parts) → Allowed ld md n → SameRows ld md n a b → blockValues f ld n a s ≡ blockValues f md n b s
+  -- by any reading of a 2-block, so of block_values and standardised_values alike
+  pub values : (f : Format) (rd : Reading) (ld md n : ℕ) (a b : List Float) (s : Parts) → Allowed ld md n → SameRows ld md n a b → valuesRead f rd ld n a s ≡ valuesRead f rd md n b s
   pub vectors : (f : Format) (ld md n : ℕ) (a b v w : List Float) → Allowed ld md n → SameRows ld md n a b → SameRows ld md n v w
       → SameVectors ld md n (evdFromRealSchur f ld n a v) (evdFromRealSchur f md n b w)
   pub column : (ld md n : ℕ) (v w : List Float) (col : ℕ) → Allowed ld md n → SameRows ld md n v w → columnOf ld n v col ≡ columnOf md n w col

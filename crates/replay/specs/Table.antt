@@ -38,6 +38,8 @@ lines =
     ∷ Forms.blockValues 1
     ∷ Forms.evdFromRealSchur 1
     ∷ Forms.column 1
+    ∷ Forms.standardisedValues 0
+    ∷ Forms.standardisedValues 1
     ∷ []
 
 -- what is no call has no lines

@@ -39,6 +39,8 @@ pub fn run(call: usize, w: &[u64]) -> Outcome
         23 => vectors::block_values(1, w),
         24 => vectors::evd_from_real_schur(1, w),
         25 => vectors::column(1, w),
+        26 => vectors::standardised_values(0, w),
+        27 => vectors::standardised_values(1, w),
         _ => Outcome::Malformed,
     }
 }

@@ -1,6 +1,6 @@
 -- What a line of each call on forms shows, by the call's definition in model. Definitions only. Assumes nothing.
 use Prim.Native.Nat.{ℕ, _+_, _*_}
-use mathlib.Core.Bool.{Bool, _&&_}
+use mathlib.Core.Bool.{Bool, true, false, _&&_}
 use mathlib.Core.List.{List}
 use lib.Dec.{eqb, leb}
 use lib.ListN.{length, getD, take, drop}
@@ -9,6 +9,7 @@ use Rattle.model.specs.Move as Move
 use Rattle.model.specs.Exchange as Exchange
 use Rattle.model.specs.Vectors as Vectors
 use Rattle.model.specs.Values as Values
+use Rattle.values.specs.Reading.{reading}
 use Rattle.replay_text.specs.Float.{areWords}
 use Rattle.replay_text.specs.Shown.{judged, from}
 use Rattle.replay_text.specs.declared.outcome.Outcome.{Outcome}
@@ -95,19 +96,26 @@ schurSwap more w = onTwo more Call.Exchange w
 abbrev pub evdFromRealSchur : ℕ → List ℕ → Outcome
 evdFromRealSchur more w = onTwo more Call.Vectors w
 
--- a form of a numbers, and b and k lent for the parts of its values
-abbrev pub valuesIn : ℕ → List ℕ → ℕ → ℕ → ℕ → Values.BlockValues
-valuesIn more w a b k =
-    Values.blockValues binary64 (getD w (3 + more) 0) (getD w 3 0) (from w (4 + more) a) (record { re = from w (4 + more + a) b; im = from w (4 + more + a + b) k })
+-- a form of a numbers, and b and k lent for the parts of its values, by either reading
+abbrev pub valuesIn : Bool → ℕ → List ℕ → ℕ → ℕ → ℕ → Values.BlockValues
+valuesIn standardise more w a b k =
+    Values.valuesRead binary64 (reading standardise) (getD w (3 + more) 0) (getD w 3 0) (from w (4 + more) a) (record { re = from w (4 + more + a) b; im = from w (4 + more + a + b) k })
 
-unfoldable pub sameValues : ℕ → List ℕ → ℕ → ℕ → ℕ → Bool
-sameValues more w a b k =
-    let r = valuesIn more w a b k in
+unfoldable pub sameValues : Bool → ℕ → List ℕ → ℕ → ℕ → ℕ → Bool
+sameValues standardise more w a b k =
+    let r = valuesIn standardise more w a b k in
     let e = 4 + more + a + b + k in
     is w e (r .answer) && are w (e + 1) b (r .parts .re) && are w (e + 1 + b) k (r .parts .im)
 
+abbrev pub onValues : Bool → ℕ → List ℕ → Outcome
+onValues standardise more w =
+    let a = getD w 0 0 in let b = getD w 1 0 in let k = getD w 2 0 in judged (fits (length w) (5 + more) a b k) (sameValues standardise more w a b k)
+
 abbrev pub blockValues : ℕ → List ℕ → Outcome
-blockValues more w = let a = getD w 0 0 in let b = getD w 1 0 in let k = getD w 2 0 in judged (fits (length w) (5 + more) a b k) (sameValues more w a b k)
+blockValues more w = onValues false more w
+
+abbrev pub standardisedValues : ℕ → List ℕ → Outcome
+standardisedValues more w = onValues true more w
 
 -- vectors of a numbers, and the rest of the line is the part, of length 0 where it is refused
 unfoldable pub sameColumn : ℕ → List ℕ → ℕ → Bool

@@ -3,7 +3,10 @@
 ghost use mathlib.Core.Path.{_≡_};
 ghost use Prim.Native.Nat.{_+_, _*_, _≤_};
 ghost use lib.ListN.{length};
+ghost use lib.Ieee.{binary64};
+ghost use Rattle.model.specs.Values as Values;
 ghost use Rattle.replay_text.specs.Shown.{from};
+ghost use Rattle.values.specs.Reading.{reading};
 ghost use Rattle.replay_forms.specs.Lines as Lines;
 use crate::buffers::are;
 use crate::buffers::fill;
@@ -43,13 +46,37 @@ pub fn evd_from_real_schur(more: usize, w: &[u64]) -> Outcome
     on_two(more, Call::Vectors, w)
 }
 
+// The values of a form by either reading.
+fn values_by(
+    standardise: bool,
+    n: usize,
+    ld: usize,
+    t: &[f64],
+    re: &mut [f64],
+    im: &mut [f64],
+) -> usize
+    ensures { λ r. ⌜ (record { answer = r; parts = record { re = now (re .exit); im = now (im .exit) } }) ≡ Values.valuesRead binary64 (reading standardise) ld n (now (t .entry)) (record { re = now (re .entry); im = now (im .entry) }) ⌝ }
+{
+    if standardise {
+        return values::blocks::standardised_values(n, ld, t, re, im);
+    }
+    values::blocks::block_values(n, ld, t, re, im)
+}
+
 // The values of a line's form, in buffers of the right lengths.
-fn same_values(more: usize, w: &[u64], t: &mut [f64], re: &mut [f64], im: &mut [f64]) -> bool
+fn same_values(
+    standardise: bool,
+    more: usize,
+    w: &[u64],
+    t: &mut [f64],
+    re: &mut [f64],
+    im: &mut [f64],
+) -> bool
     requires { ⌜ (length (now t) ≤ 8320) × (length (now re) ≤ 8320) × (length (now im) ≤ 8320) × (more ≤ 1) × (length (now w) ≡ 5 + more + length (now t) + 2 * (length (now re) + length (now im))) ⌝ }
-    ensures { λ r. ⌜ (r ≡ Lines.sameValues more (now (w .entry)) (length (now (t .entry))) (length (now (re .entry))) (length (now (im .entry))))
+    ensures { λ r. ⌜ (r ≡ Lines.sameValues standardise more (now (w .entry)) (length (now (t .entry))) (length (now (re .entry))) (length (now (im .entry))))
         × (now (t .exit) ≡ from (now (w .entry)) (4 + more) (length (now (t .entry))))
-        × (now (re .exit) ≡ Lines.valuesIn more (now (w .entry)) (length (now (t .entry))) (length (now (re .entry))) (length (now (im .entry))) .parts .re)
-        × (now (im .exit) ≡ Lines.valuesIn more (now (w .entry)) (length (now (t .entry))) (length (now (re .entry))) (length (now (im .entry))) .parts .im) ⌝ }
+        × (now (re .exit) ≡ Lines.valuesIn standardise more (now (w .entry)) (length (now (t .entry))) (length (now (re .entry))) (length (now (im .entry))) .parts .re)
+        × (now (im .exit) ≡ Lines.valuesIn standardise more (now (w .entry)) (length (now (t .entry))) (length (now (re .entry))) (length (now (im .entry))) .parts .im) ⌝ }
 {
     let a = t.len();
     let b = re.len();
@@ -59,7 +86,7 @@ fn same_values(more: usize, w: &[u64], t: &mut [f64], re: &mut [f64], im: &mut [
     fill(&mut *im, w, 4 + more + a + b);
     let n = w[3] as usize;
     let ld = w[3 + more] as usize;
-    let r = evd::values::block_values(n, ld, &*t, &mut *re, &mut *im);
+    let r = values_by(standardise, n, ld, &*t, &mut *re, &mut *im);
     let e = 4 + more + a + b + k;
     let answer = r as u64 == w[e];
     let real = are(w, e + 1, b, &*re);
@@ -68,9 +95,9 @@ fn same_values(more: usize, w: &[u64], t: &mut [f64], re: &mut [f64], im: &mut [
 }
 
 // Three lengths, n, the stride if it is given, form, real and imaginary parts; answer, real and imaginary parts.
-pub fn block_values(more: usize, w: &[u64]) -> Outcome
+fn on_values(standardise: bool, more: usize, w: &[u64]) -> Outcome
     requires { ⌜ more ≤ 1 ⌝ }
-    ensures { λ r. ⌜ r ≡ Lines.blockValues more (now (w .entry)) ⌝ }
+    ensures { λ r. ⌜ r ≡ Lines.onValues standardise more (now (w .entry)) ⌝ }
 {
     if w.len() < 5 + more {
         return Outcome::Malformed;
@@ -84,7 +111,30 @@ pub fn block_values(more: usize, w: &[u64]) -> Outcome
     let mut t = room();
     let mut re = room();
     let mut im = room();
-    judge(same_values(more, w, &mut t[..a], &mut re[..b], &mut im[..k]))
+    judge(same_values(
+        standardise,
+        more,
+        w,
+        &mut t[..a],
+        &mut re[..b],
+        &mut im[..k],
+    ))
+}
+
+// A line of the values of 2-blocks as they stand.
+pub fn block_values(more: usize, w: &[u64]) -> Outcome
+    requires { ⌜ more ≤ 1 ⌝ }
+    ensures { λ r. ⌜ r ≡ Lines.blockValues more (now (w .entry)) ⌝ }
+{
+    on_values(false, more, w)
+}
+
+// A line of those of copies standardised first.
+pub fn standardised_values(more: usize, w: &[u64]) -> Outcome
+    requires { ⌜ more ≤ 1 ⌝ }
+    ensures { λ r. ⌜ r ≡ Lines.standardisedValues more (now (w .entry)) ⌝ }
+{
+    on_values(true, more, w)
 }
 
 // The column of a line's vectors, in a buffer of the right length.

@@ -37,11 +37,13 @@ names =
     ∷ ascii "block_values_ld             "
     ∷ ascii "evd_from_real_schur_ld      "
     ∷ ascii "column_ld                   "
+    ∷ ascii "standardised_values         "
+    ∷ ascii "standardised_values_ld      "
     ∷ []
 
 -- how many calls there are; also the number of what is no call
 abbrev pub calls : ℕ
-calls = 26
+calls = 28
 
 -- spaces for what is no call
 abbrev pub nameOf : ℕ → List ℕ

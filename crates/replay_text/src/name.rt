@@ -3,10 +3,10 @@ ghost use mathlib.Core.Path.{_≡_};
 ghost use Rattle.replay_text.specs.Names as Names;
 
 // How many calls there are. It is also the number of what is no call.
-pub const CALLS: usize = 26;
+pub const CALLS: usize = 28;
 
 // The rows of the counts: one of each call, and one of what is no call.
-pub const ROWS: usize = 27;
+pub const ROWS: usize = 29;
 
 // The name of a call, with spaces after it; what is no call has none.
 pub fn name_of(call: usize) -> [u8; 28]
@@ -39,6 +39,8 @@ pub fn name_of(call: usize) -> [u8; 28]
         23 => *b"block_values_ld             ",
         24 => *b"evd_from_real_schur_ld      ",
         25 => *b"column_ld                   ",
+        26 => *b"standardised_values         ",
+        27 => *b"standardised_values_ld      ",
         _ => [b' '; 28],
     }
 }

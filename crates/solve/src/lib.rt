@@ -1,4 +1,4 @@
-// Inside (`evd`): the shifted solvers of the vectors, and what they share with them.
+// Inside (`evd`, `values`): the shifted solvers of the vectors, and what they and the values share with them.
 pub mod block;
 mod dots;
 pub mod solve_cplx;

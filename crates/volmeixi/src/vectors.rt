@@ -5,7 +5,8 @@ ghost use lib.Ieee.{binary64};
 ghost use Rattle.model.specs.Values as Values;
 ghost use Rattle.model.specs.Vectors as Vectors;
 
-// The values of the form's blocks: 0, or the first line that applies.
+// The values of the form's blocks, each 2-block read as it stands: 0, or the first line that
+// applies.
 #[no_mangle]
 pub extern "C" fn vx_block_values(
     n: usize,
@@ -16,7 +17,21 @@ pub extern "C" fn vx_block_values(
 ) -> usize
     ensures { λ r. ⌜ (record { answer = r; parts = record { re = now (re .exit); im = now (im .exit) } }) ≡ Values.blockValues binary64 ld n (now (t .entry)) (record { re = now (re .entry); im = now (im .entry) }) ⌝ }
 {
-    evd::values::block_values(n, ld, t, re, im)
+    values::blocks::block_values(n, ld, t, re, im)
+}
+
+// The same of a copy of each 2-block that is standardised first: 0, or the first line that applies.
+#[no_mangle]
+pub extern "C" fn vx_standardised_values(
+    n: usize,
+    ld: usize,
+    t: &[f64],
+    re: &mut [f64],
+    im: &mut [f64],
+) -> usize
+    ensures { λ r. ⌜ (record { answer = r; parts = record { re = now (re .exit); im = now (im .exit) } }) ≡ Values.standardisedValues binary64 ld n (now (t .entry)) (record { re = now (re .entry); im = now (im .entry) }) ⌝ }
+{
+    values::blocks::standardised_values(n, ld, t, re, im)
 }
 
 // The form's vectors, column by column: 0, or the first line that applies.

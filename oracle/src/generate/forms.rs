@@ -2,6 +2,7 @@
 
 use super::floats::*;
 use super::rng::Rng;
+use super::small;
 
 /// How the numbers of one form are drawn.
 struct Style {
@@ -118,9 +119,7 @@ pub fn form(rng: &mut Rng, n: usize) -> Vec<f64> {
     let mut i = 0;
     while i < n {
         if i + 1 < n && rng.below(10) < style.pairs {
-            let [a, b, c, d] = block(rng, &style);
-            (t[i + n * i], t[i + n * (i + 1)]) = (a, b);
-            (t[i + 1 + n * i], t[i + 1 + n * (i + 1)]) = (c, d);
+            put(n, &mut t, i, block(rng, &style));
             i += 2;
         } else {
             t[i + n * i] = diagonal(rng, &style);
@@ -128,6 +127,51 @@ pub fn form(rng: &mut Rng, n: usize) -> Vec<f64> {
         }
     }
     t
+}
+
+/// The rows (a, b) and (c, d) from row i on.
+pub fn put(n: usize, t: &mut [f64], i: usize, [a, b, c, d]: [f64; 4]) {
+    (t[i + n * i], t[i + n * (i + 1)]) = (a, b);
+    (t[i + 1 + n * i], t[i + 1 + n * (i + 1)]) = (c, d);
+}
+
+/// An accepted form of n rows; half of its 2-blocks, and of its neighbouring single rows, are blocks
+/// drawn to be standardised.
+pub fn to_standardise(rng: &mut Rng, n: usize) -> Vec<f64> {
+    let mut t = form(rng, n);
+    let mut i = 0;
+    while i + 1 < n {
+        let pair = begins_pair(n, &t, i);
+        if (pair || !begins_pair(n, &t, i + 1)) && rng.one_in(2) {
+            put(n, &mut t, i, unstandardised(rng));
+            i += 2;
+        } else {
+            i += if pair { 2 } else { 1 };
+        }
+    }
+    t
+}
+
+/// As lahqr_schur22 is given them; or what is seldom among these: zeros of unlike sign on the
+/// diagonal, equal diagonal numbers with a NaN below, and whole numbers with a double value, of which
+/// some come out with b zero and c not.
+fn unstandardised(rng: &mut Rng) -> [f64; 4] {
+    match rng.below(8) {
+        0 => {
+            let zero = signed(rng, 0.0);
+            [zero, any(rng), set(any(rng)), -zero]
+        }
+        1 => {
+            let a = any(rng);
+            [a, any(rng), class(rng, 8), a]
+        }
+        2 => {
+            let (middle, half, scale) = (rng.between(-12, 12), rng.between(-12, 12), power(rng.between(-40, 40)));
+            let b = if rng.one_in(2) { half } else { -half };
+            [middle + half, b, -b, middle - half].map(|x| x as f64 * scale)
+        }
+        _ => small::block(rng),
+    }
 }
 
 /// A factor: none, the unit matrix, or any numbers.

@@ -2,7 +2,7 @@
 
 mod damage;
 pub mod floats;
-mod forms;
+pub mod forms;
 pub mod moduli;
 pub mod rng;
 mod small;
@@ -12,7 +12,7 @@ mod text;
 
 use crate::record::{Record, Value};
 use crate::stride;
-use forms::{begins_pair, buffer, factor, form, starts};
+use forms::{begins_pair, buffer, factor, form, starts, to_standardise};
 use rng::Rng;
 
 /// The numbers of rows to draw from, both included.
@@ -81,10 +81,8 @@ fn on_form(rng: &mut Rng, call: &'static str, sizes: Sizes) -> Option<Record> {
     Some(match call {
         "schur_swap" => exchange(rng, sizes),
         "reorder_schur" => reorder(rng, sizes),
-        "block_values" => {
-            let n = rows(rng, sizes);
-            Record::new(call).num("n", n).list("t", form(rng, n)).list("re", buffer(rng, n)).list("im", buffer(rng, n))
-        }
+        "block_values" => values(rng, call, sizes, form),
+        "standardised_values" => values(rng, call, sizes, to_standardise),
         "evd_from_real_schur" => {
             let n = rows(rng, sizes);
             Record::new(call).num("n", n).list("t", form(rng, n)).list("v", buffer(rng, n * n))
@@ -95,6 +93,11 @@ fn on_form(rng: &mut Rng, call: &'static str, sizes: Sizes) -> Option<Record> {
         }
         _ => return None,
     })
+}
+
+fn values(rng: &mut Rng, call: &'static str, sizes: Sizes, form: fn(&mut Rng, usize) -> Vec<f64>) -> Record {
+    let n = rows(rng, sizes);
+    Record::new(call).num("n", n).list("t", form(rng, n)).list("re", buffer(rng, n)).list("im", buffer(rng, n))
 }
 
 /// Small numbers of rows are drawn more often.
@@ -180,6 +183,25 @@ mod tests {
         assert_eq!(lines("schur_swap_ld"), [0, 2, 3, 4, 5, 6, 7, 8, 9, 10, 17]);
         assert_eq!(lines("reorder_schur_ld"), [0, 2, 3, 4, 5, 6, 7, 17]);
         assert_eq!(lines("evd_from_real_schur_ld"), [0, 2, 3, 4, 5, 6, 17]);
+    }
+
+    /// Every line is told of standardised values, and every way to read a 2-block occurs.
+    #[test]
+    fn pairs_of_every_kind_occur() {
+        let without = [0, 2, 3, 4, 5, 6];
+        let with = [0, 2, 3, 4, 5, 6, 17];
+        for (call, lines) in [("standardised_values", &without[..]), ("standardised_values_ld", &with)] {
+            let mut tally = Tally::default();
+            for index in 0..4000 {
+                let case = case(call, 5, index, USUAL);
+                let (answer, notes) = calls::answer(&case);
+                tally.add(&case, &answer, &notes);
+            }
+            assert_eq!(tally.answers.keys().copied().collect::<Vec<_>>(), lines);
+            for class in ["a real pair", "a complex pair", "a pair with NaN c"] {
+                assert!(tally.classes[class] > 100, "{tally}");
+            }
+        }
     }
 
     /// One row comes in every stride, and every class of strides and of numbers beyond is drawn.

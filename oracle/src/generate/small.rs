@@ -108,7 +108,7 @@ fn reflection(rng: &mut Rng, index: u64) -> (f64, Vec<f64>) {
 }
 
 /// A block (a, b, c, d) to standardise, from every branch of lahqr_schur22.
-fn block(rng: &mut Rng) -> [f64; 4] {
+pub fn block(rng: &mut Rng) -> [f64; 4] {
     let [a, b, c, d] = [ordinary(rng), ordinary(rng), ordinary(rng), ordinary(rng)];
     match rng.below(14) {
         0 => [any(rng), any(rng), any(rng), any(rng)],

@@ -1,12 +1,10 @@
 -- `evd::vectors::evd_from_real_schur` meets its contract. Assumes nothing.
 use mathlib.Core.Path.{sym, _∙_}
-use native.Mathlib.Omega.{arith}
 use borrow.Author.Tests.{eq-eqb, ne-eqb, eqb-true, not-false}
-use lib.Ieee.{binary64}
 use Rattle.model.specs.Vectors.{vectorsLine, evdFromRealSchur}
 use Rattle.form.specs.Lines.{furtherLine}
 use Rattle.form.proofs.Accepted.{further-accepted}
-use Rattle.evd.proofs.Lines.{whole}
+use Rattle.solve.proofs.Sizes.{whole}
 use borrow.Author.Needs.{needs}
 use Rattle.evd.proofs.vectors.evd_from_real_schur.Statement.{statement}
 use Rattle.evd.proofs.vectors.evd_from_real_schur.Tie as tie

@@ -88,6 +88,12 @@ evd-from-real-schur-requires-2 c κs = search needs
 column-requires-2 : tie.Need-column-requires-2
 column-requires-2 c κs = search needs
 
+standardised-values-requires : tie.Need-standardised-values-requires
+standardised-values-requires c κs = search needs
+
+standardised-values-requires-2 : tie.Need-standardised-values-requires-2
+standardised-values-requires-2 c κs = search needs
+
 returns : tie.Need-returns
 returns c = rw (c .before .match .keys1) (c .abs .ensures)
 
@@ -167,7 +173,13 @@ returns-26 : tie.Need-returns-26
 returns-26 c = rw (c .before .match .keys26) (c .column2 .ensures)
 
 returns-27 : tie.Need-returns-27
-returns-27 c =
+returns-27 c = rw (c .before .match .keys27) (c .standardised-values .ensures)
+
+returns-28 : tie.Need-returns-28
+returns-28 c = rw (c .before .match .keys28) (c .standardised-values2 .ensures)
+
+returns-29 : tie.Need-returns-29
+returns-29 c =
     let a = c .before .before .args in
     ap (λ (f : List ℕ → Outcome). f (a .w .now)) (sym (List·getD-eq-default lines none (past (a .call) (c .match .rest))))
 
@@ -201,6 +213,8 @@ run-spec =
     block-values-requires-2
     evd-from-real-schur-requires-2
     column-requires-2
+    standardised-values-requires
+    standardised-values-requires-2
     returns
     returns-2
     returns-3
@@ -227,4 +241,6 @@ run-spec =
     returns-24
     returns-25
     returns-26
-    returns-27)
+    returns-27
+    returns-28
+    returns-29)

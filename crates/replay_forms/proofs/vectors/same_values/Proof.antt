@@ -43,8 +43,8 @@ mul-ld c = search needs
 shared-slice-read-ld : tie.Need-shared-slice-read-ld
 shared-slice-read-ld c = search needs
 
-block-values-requires : tie.Need-block-values-requires
-block-values-requires c κs = search needs
+values-by-requires : tie.Need-values-by-requires
+values-by-requires c κs = search needs
 
 add-e : tie.Need-add-e
 add-e c = search needs
@@ -96,10 +96,10 @@ returns c =
     let c3 = c2 .before .before .before .before .before .before .before .before in
     let c4 = c3 .before .before .before .before in
     let c5 = c4 .before .before .before .before in (
-      rw (c .are2 .ensures, c1 .are .ensures, ← c5 .fill .ensures, ← c4 .fill2 .ensures, ← c3 .fill3 .ensures, ← c2 .block-values .ensures),
+      rw (c .are2 .ensures, c1 .are .ensures, ← c5 .fill .ensures, ← c4 .fill2 .ensures, ← c3 .fill3 .ensures, ← c2 .values-by .ensures),
       c5 .fill .ensures,
-      rw (← c5 .fill .ensures, ← c4 .fill2 .ensures, ← c3 .fill3 .ensures, ← c2 .block-values .ensures),
-      rw (← c5 .fill .ensures, ← c4 .fill2 .ensures, ← c3 .fill3 .ensures, ← c2 .block-values .ensures),
+      rw (← c5 .fill .ensures, ← c4 .fill2 .ensures, ← c3 .fill3 .ensures, ← c2 .values-by .ensures),
+      rw (← c5 .fill .ensures, ← c4 .fill2 .ensures, ← c3 .fill3 .ensures, ← c2 .values-by .ensures),
     )
 
 pub same-values-spec : {M : Type 1} → statement M
@@ -119,7 +119,7 @@ same-values-spec =
     add-ld
     mul-ld
     shared-slice-read-ld
-    block-values-requires
+    values-by-requires
     add-e
     add-e-2
     add-e-3

@@ -85,7 +85,13 @@ returns-26 : tie.Need-returns-26
 returns-26 c = rw (c .before .before .match .keys26)
 
 returns-27 : tie.Need-returns-27
-returns-27 c = sym (List·getD-eq-default names (replicate 28 32) (past (c .before .args .call) (c .match .rest)))
+returns-27 c = rw (c .before .before .match .keys27)
+
+returns-28 : tie.Need-returns-28
+returns-28 c = rw (c .before .before .match .keys28)
+
+returns-29 : tie.Need-returns-29
+returns-29 c = sym (List·getD-eq-default names (replicate 28 32) (past (c .before .args .call) (c .match .rest)))
 
 pub name-of-spec : {M : Type 1} → statement M
 name-of-spec =
@@ -117,4 +123,6 @@ name-of-spec =
     returns-24
     returns-25
     returns-26
-    returns-27)
+    returns-27
+    returns-28
+    returns-29)

@@ -1,0 +1,4 @@
+pub mod Numbers
+pub mod Blocks
+pub mod Rows
+pub mod Forms
