@@ -4,6 +4,9 @@
 /// The copies of an archive, two for each place of a line.
 pub const PLACES: usize = 8;
 
+/// A call that writes the values of a form's blocks.
+type ValuesCall = unsafe extern "C" fn(usize, usize, *const f64, usize, *mut f64, usize, *mut f64, usize) -> usize;
+
 /// The calls of one copy.
 pub struct Archive {
     reorder_schur: unsafe extern "C" fn(
@@ -20,7 +23,9 @@ pub struct Archive {
         *mut usize,
     ) -> usize,
     evd_from_real_schur: unsafe extern "C" fn(usize, usize, *const f64, usize, *mut f64, usize) -> usize,
-    block_values: unsafe extern "C" fn(usize, usize, *const f64, usize, *mut f64, usize, *mut f64, usize) -> usize,
+    block_values: ValuesCall,
+    /// Of ours alone: the other archive may be of before this call.
+    standardised_values: Option<ValuesCall>,
     make_householder_in_place:
         unsafe extern "C" fn(f64, *mut f64, usize, *mut f64, *mut f64, *mut f64, *mut f64) -> usize,
     sqrt: unsafe extern "C" fn(f64) -> f64,
@@ -28,7 +33,7 @@ pub struct Archive {
 }
 
 macro_rules! copy {
-    ($name:expr) => {{
+    ($name:expr, $standardised_values:expr) => {{
         extern "C" {
             #[link_name = concat!("vx_reorder_schur_", $name)]
             fn reorder_schur(
@@ -79,19 +84,52 @@ macro_rules! copy {
             #[link_name = concat!("vx_hypot_", $name)]
             fn hypot(p: f64, q: f64) -> f64;
         }
-        Archive { reorder_schur, evd_from_real_schur, block_values, make_householder_in_place, sqrt, hypot }
+        Archive {
+            reorder_schur,
+            evd_from_real_schur,
+            block_values,
+            standardised_values: $standardised_values,
+            make_householder_in_place,
+            sqrt,
+            hypot,
+        }
     }};
 }
 
-macro_rules! copies {
-    ($name:literal: $($place:literal)*) => {
-        [$(copy!(concat!($name, "_", $place))),*]
+macro_rules! standardised_values {
+    ($name:expr) => {{
+        extern "C" {
+            #[link_name = concat!("vx_standardised_values_", $name)]
+            fn standardised_values(
+                n: usize,
+                ld: usize,
+                t: *const f64,
+                t_len: usize,
+                re: *mut f64,
+                re_len: usize,
+                im: *mut f64,
+                im_len: usize,
+            ) -> usize;
+        }
+        Some(standardised_values)
+    }};
+}
+
+macro_rules! not_linked {
+    ($name:expr) => {
+        None
     };
 }
 
-pub static OURS: [Archive; PLACES] = copies!("ours": 0 1 2 3 4 5 6 7);
+macro_rules! copies {
+    ($name:literal, $standardised_values:ident: $($place:literal)*) => {
+        [$(copy!(concat!($name, "_", $place), $standardised_values!(concat!($name, "_", $place)))),*]
+    };
+}
+
+pub static OURS: [Archive; PLACES] = copies!("ours", standardised_values: 0 1 2 3 4 5 6 7);
 /// What ours is timed beside by `bench/run beside`; else ours once more, and not called.
-pub static OTHER: [Archive; PLACES] = copies!("other": 0 1 2 3 4 5 6 7);
+pub static OTHER: [Archive; PLACES] = copies!("other", not_linked: 0 1 2 3 4 5 6 7);
 
 impl Archive {
     /// The number and the counts: landed, swaps, declined.
@@ -132,6 +170,13 @@ impl Archive {
     #[inline(always)]
     pub fn values(&self, n: usize, ld: usize, t: &[f64], re: &mut [f64], im: &mut [f64]) -> usize {
         unsafe { (self.block_values)(n, ld, t.as_ptr(), t.len(), re.as_mut_ptr(), re.len(), im.as_mut_ptr(), im.len()) }
+    }
+
+    /// Panics on the other archive.
+    #[inline(always)]
+    pub fn standardised(&self, n: usize, ld: usize, t: &[f64], re: &mut [f64], im: &mut [f64]) -> usize {
+        let call = self.standardised_values.expect("the call is linked of ours alone");
+        unsafe { call(n, ld, t.as_ptr(), t.len(), re.as_mut_ptr(), re.len(), im.as_mut_ptr(), im.len()) }
     }
 
     /// The results beside the head: tau, head_with_beta_inv, norm.

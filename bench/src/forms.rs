@@ -82,6 +82,25 @@ impl Form {
         Form { ld, t: spread(self.n, ld, &self.t), ..self }
     }
 
+    /// The same form with each 2-block turned by one angle, and nothing beyond the blocks: the diagonal
+    /// numbers of a 2-block then differ, its values are the same up to rounding.
+    pub fn raw(mut self) -> Form {
+        let (cs, sn) = (0.8, 0.6);
+        for (i, size) in self.starts().into_iter().zip(&self.sizes) {
+            if *size == 1 {
+                continue;
+            }
+            let at = |row: usize, column: usize| i + row + self.ld * (i + column);
+            let [a, b, c, d] = [at(0, 0), at(0, 1), at(1, 0), at(1, 1)];
+            // The two rows, then the two columns.
+            for [x, y] in [[a, c], [b, d], [a, b], [c, d]] {
+                (self.t[x], self.t[y]) = (cs * self.t[x] - sn * self.t[y], sn * self.t[x] + cs * self.t[y]);
+            }
+            assert!(self.t[a] != self.t[d], "the 2-block in row {i} is standardised yet");
+        }
+        self
+    }
+
     /// The unit in the form's own stride, as a factor; or none.
     pub fn factor(&self, with_factor: bool) -> Vec<f64> {
         if with_factor { spread(self.n, self.ld, &unit(self.n)) } else { Vec::new() }

@@ -38,6 +38,18 @@ type Dtrevc3 = unsafe extern "C" fn(
     len2: usize,
 );
 type Dlarfg = unsafe extern "C" fn(n: Int, alpha: &mut f64, x: *mut f64, incx: Int, tau: &mut f64);
+type Dlanv2 = unsafe extern "C" fn(
+    a: &mut f64,
+    b: &mut f64,
+    c: &mut f64,
+    d: &mut f64,
+    rt1r: &mut f64,
+    rt1i: &mut f64,
+    rt2r: &mut f64,
+    rt2i: &mut f64,
+    cs: &mut f64,
+    sn: &mut f64,
+);
 extern "C" {
     fn dlopen(path: *const c_char, flags: c_int) -> *mut c_void;
     fn dlsym(library: *mut c_void, name: *const c_char) -> *mut c_void;
@@ -51,6 +63,7 @@ pub struct Lapack {
     dtrexc: Dtrexc,
     dtrevc3: Dtrevc3,
     dlarfg: Dlarfg,
+    dlanv2: Dlanv2,
 }
 
 const MOST: usize = 64;
@@ -79,6 +92,7 @@ impl Lapack {
                 dtrexc: std::mem::transmute::<*mut c_void, Dtrexc>(find("dtrexc_")?),
                 dtrevc3: std::mem::transmute::<*mut c_void, Dtrevc3>(find("dtrevc3_")?),
                 dlarfg: std::mem::transmute::<*mut c_void, Dlarfg>(find("dlarfg_")?),
+                dlanv2: std::mem::transmute::<*mut c_void, Dlanv2>(find("dlanv2_")?),
             })
         }
     }
@@ -135,6 +149,26 @@ impl Lapack {
             );
         }
         info
+    }
+
+    /// The values of a form's blocks, by dlanv2 on a copy of each 2-block.
+    pub fn standardised(&self, n: usize, ld: usize, t: &[f64], re: &mut [f64], im: &mut [f64]) {
+        let at = |i: usize, j: usize| t[i + ld * j];
+        let mut i = 0;
+        while i < n {
+            if i + 1 == n || at(i + 1, i) == 0.0 {
+                (re[i], im[i]) = (at(i, i), 0.0);
+                i += 1;
+                continue;
+            }
+            let [mut a, mut b, mut c, mut d] = [at(i, i), at(i, i + 1), at(i + 1, i), at(i + 1, i + 1)];
+            let [mut re1, mut im1, mut re2, mut im2, mut cs, mut sn] = [0.0; 6];
+            unsafe {
+                (self.dlanv2)(&mut a, &mut b, &mut c, &mut d, &mut re1, &mut im1, &mut re2, &mut im2, &mut cs, &mut sn)
+            }
+            (re[i], im[i], re[i + 1], im[i + 1]) = (re1, im1, re2, im2);
+            i += 2;
+        }
     }
 
     /// A reflection. LAPACK's head and tail are ours up to rounding, its tau is one over ours.

@@ -51,11 +51,6 @@ const KINDS_OF_MOVE: [(&str, Moves, Option<usize>); 5] = [
     ("move last to first, stride 128", Form::last_to_first, Some(STRIDE)),
 ];
 
-/// The form of a row.
-fn form_of(kind: Kind, n: usize, stride: Option<usize>) -> Form {
-    Form::new(kind, n, SEED).spread(stride.unwrap_or(n))
-}
-
 /// A list of moves on a form.
 pub struct MoveRow {
     pub what: &'static str,
@@ -76,7 +71,7 @@ impl MoveRow {
             let name = format!("{what} {} {}", kind.name(), if with_factor { "with factor" } else { "no factor" });
             plan.wants(&name, Some(n)).then(|| {
                 progress(&format!("{name}, n = {n}"));
-                let form = form_of(kind, n, stride);
+                let form = Form::new(kind, n, SEED).spread(stride.unwrap_or(n));
                 MoveRow { what, name, kind, with_factor, moves: moves(&form), form }
             })
         })
@@ -154,7 +149,7 @@ fn runs_that_fit(side: Side, form: &Form, factor: &[f64], moves: &[(usize, usize
     (runs + 1).next_power_of_two() / 2
 }
 
-/// A call on a form alone: its vectors or its values.
+/// A call on a form alone: its vectors or its values, as they stand or standardised.
 pub struct FormRow {
     pub what: String,
     pub name: String,
@@ -170,11 +165,28 @@ impl FormRow {
         let kinds = strides.into_iter().flat_map(|row| Kind::ALL.map(|kind| (row.clone(), kind)));
         let all = kinds.flat_map(|(row, kind)| SIZES.map(|n| (row.clone(), kind, n)));
         all.filter_map(move |((what, stride), kind, n)| {
-            let name = format!("{what} {}", kind.name());
-            plan.wants(&name, Some(n)).then(|| {
-                progress(&format!("{name}, n = {n}"));
-                FormRow { what, name, kind, form: form_of(kind, n, stride) }
-            })
+            FormRow::wanted(plan, what, kind, n, |form| form.spread(stride.unwrap_or(n)))
+        })
+    }
+
+    /// The rows of standardised values that are wanted, all with the stride n: on the same forms, whose
+    /// 2-blocks are standardised already, then on those with 2-blocks made raw.
+    pub fn standardised(plan: &Plan) -> impl Iterator<Item = FormRow> + '_ {
+        let call = "standardised values";
+        let kept = Kind::ALL.map(|kind| (call.to_string(), kind, false));
+        let raw = [Kind::Pairs, Kind::Mixed].map(|kind| (format!("{call}, raw"), kind, true));
+        let all = kept.into_iter().chain(raw).flat_map(|row| SIZES.map(|n| (row.clone(), n)));
+        all.filter_map(move |((what, kind, raw), n)| {
+            FormRow::wanted(plan, what, kind, n, |form| if raw { form.raw() } else { form })
+        })
+    }
+
+    /// A row if it is wanted, on what is made of the bench's form.
+    fn wanted(plan: &Plan, what: String, kind: Kind, n: usize, made: impl FnOnce(Form) -> Form) -> Option<FormRow> {
+        let name = format!("{what} {}", kind.name());
+        plan.wants(&name, Some(n)).then(|| {
+            progress(&format!("{name}, n = {n}"));
+            FormRow { what, name, kind, form: made(Form::new(kind, n, SEED)) }
         })
     }
 
@@ -201,6 +213,20 @@ impl FormRow {
             let start = Instant::now();
             for _ in 0..runs {
                 black_box(side.values(*n, *ld, black_box(t), out));
+            }
+            start.elapsed()
+        })
+    }
+
+    pub fn standardised_times(&self, plan: &Plan, sides: &[Side], out: &mut Values) -> Times {
+        let Form { n, ld, t, .. } = &self.form;
+        // A batch lasts up to 60 microseconds or so.
+        let runs = (1024 / n).min(64);
+        Times::take(sides.len(), runs, plan.budget, |k, place| {
+            let side = sides[k].at(place);
+            let start = Instant::now();
+            for _ in 0..runs {
+                black_box(side.standardised(*n, *ld, black_box(t), out));
             }
             start.elapsed()
         })

@@ -5,7 +5,7 @@ use crate::archive::{Archive, PLACES};
 use crate::arith;
 use crate::lapack::Lapack;
 use crate::shim::*;
-use crate::taken::{eigen, evd, householder};
+use crate::taken::{eigen, evd, householder, leaves};
 
 #[derive(Clone, Copy)]
 pub enum Side {
@@ -53,6 +53,18 @@ impl Side {
         }
     }
 
+    /// The values where of each 2-block a copy is standardised first. The Rust and LAPACK have no routine
+    /// for a form: a loop of ours calls theirs for a 2-block.
+    #[inline(always)]
+    pub fn standardised(&self, n: usize, ld: usize, t: &[f64], out: &mut Values) -> usize {
+        match self {
+            Side::Archive(copies, place) => return copies[*place].standardised(n, ld, t, &mut out.re, &mut out.im),
+            Side::Rust => rust_standardised(n, ld, t, &mut out.all),
+            Side::Lapack(lapack) => lapack.standardised(n, ld, t, &mut out.re, &mut out.im),
+        }
+        0
+    }
+
     /// The reflection of a column, its head first; hands back 0 unless it is refused. The further results
     /// are tau, head_with_beta_inv and the norm; LAPACK has only a tau.
     #[inline(always)]
@@ -67,7 +79,7 @@ impl Side {
     }
 }
 
-/// Where a side writes values: an archive in two lists, the Rust in one.
+/// Where a side writes values: an archive and LAPACK in two lists, the Rust in one.
 pub struct Values {
     re: Vec<f64>,
     im: Vec<f64>,
@@ -84,6 +96,12 @@ impl Values {
         let bits = |x: &[f64]| x.iter().map(|x| x.to_bits()).collect::<Vec<u64>>();
         let (re, im): (Vec<f64>, Vec<f64>) = self.all.iter().map(|x| (x.re, x.im)).unzip();
         bits(&self.re) == bits(&re) && bits(&self.im) == bits(&im)
+    }
+
+    /// What an archive and LAPACK wrote is the same up to rounding.
+    pub fn near(&self, other: &Values) -> bool {
+        let near = |x: &[f64], y: &[f64]| x.iter().zip(y).all(|(x, y)| (x - y).abs() < 1e-10);
+        near(&self.re, &other.re) && near(&self.im, &other.im)
     }
 }
 
@@ -110,6 +128,25 @@ fn rust_values(n: usize, ld: usize, t: &[f64], values: &mut [Complex<f64>]) -> u
     let (form, mut unused) = (MatRef::with_stride(t, n, n, ld), []);
     eigen::block_values(form, MatRef::from_slice(&[], 0, n), values, MatMut::from_slice(&mut unused, 0, n));
     0
+}
+
+/// The loop is ours, as in the oracle.
+#[inline(never)]
+fn rust_standardised(n: usize, ld: usize, t: &[f64], values: &mut [Complex<f64>]) {
+    let form = MatRef::with_stride(t, n, n, ld);
+    let mut i = 0;
+    while i < n {
+        if i + 1 == n || form[(i + 1, i)] == 0.0 {
+            values[i] = Complex::new(form[(i, i)], 0.0);
+            i += 1;
+            continue;
+        }
+        let ((a, _, c, d), (_, size), ..) =
+            leaves::lahqr_schur22(form[(i, i)], form[(i, i + 1)], form[(i + 1, i)], form[(i + 1, i + 1)]);
+        let [first, second] = if c == 0.0 { [0.0, 0.0] } else { [size, -size] };
+        (values[i], values[i + 1]) = (Complex::new(a, first), Complex::new(d, second));
+        i += 2;
+    }
 }
 
 #[inline(never)]

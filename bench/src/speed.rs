@@ -1,4 +1,4 @@
-//! Times moves, vectors, values and reflections, and prints them as ratios.
+//! Times moves, vectors, values, standardised values and reflections, and prints them as ratios.
 
 use crate::archive::OURS;
 use crate::arithmetic::arithmetic;
@@ -21,6 +21,7 @@ pub fn run(plan: &Plan, sides: &Sides) {
         ("Moves", moves(plan, sides, report)),
         ("Vectors", vectors(plan, sides, report)),
         ("Values (LAPACK has no routine that only reads the values off a form)", values(plan, sides, report)),
+        ("Values of a copy standardised first; LAPACK: dlanv2 for each 2-block", standardised(plan, sides, report)),
         ("Reflections", reflections(plan, sides, report)),
         ("Root and modulus", arithmetic(plan, report)),
     ];
@@ -131,6 +132,34 @@ fn values(plan: &Plan, sides: &Sides, report: &mut Report) -> Table {
         table.add([row.what].into_iter().chain(cells).collect());
     }
     table
+}
+
+fn standardised(plan: &Plan, sides: &Sides, report: &mut Report) -> Table {
+    let heads = ["", "blocks", "n", "ours, ns", "ours/Rust", "ours/LAPACK", "ours/OpenBLAS"];
+    let mut table = Table::new(plan.markdown, &heads);
+    for row in FormRow::standardised(plan) {
+        let mut out = check_standardised(sides, &row);
+        let times = row.standardised_times(plan, &sides.all, &mut out);
+        let ratios: Vec<Spread> = (1..4).map(|k| times.ratio(0, k, plan.least)).collect();
+        report.note(&ratios, &times);
+        let cells = [row.what, row.kind.name().to_string(), row.form.n.to_string(), middle_time(&times, 0)];
+        table.add(cells.into_iter().chain(ratios.into_iter().map(shown)).collect());
+    }
+    table
+}
+
+/// Ours are as the Rust's in every bit, LAPACK's near them.
+fn check_standardised(sides: &Sides, row: &FormRow) -> Values {
+    let Form { n, ld, t, .. } = &row.form;
+    let mut out = Values::new(*n);
+    assert!(sides.all[..2].iter().all(|side| side.standardised(*n, *ld, t, &mut out) == 0));
+    assert!(out.agree(), "the Rust differs");
+    for (side, name) in sides.all.iter().zip(NAMES).skip(2) {
+        let mut out2 = Values::new(*n);
+        side.standardised(*n, *ld, t, &mut out2);
+        assert!(out.near(&out2), "{name} differs");
+    }
+    out
 }
 
 fn reflections(plan: &Plan, sides: &Sides, report: &mut Report) -> Table {
