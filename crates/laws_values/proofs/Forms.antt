@@ -1,7 +1,8 @@
 -- The claims on whole calls: by induction over the rows that are left where whole buffers are alike, and row by row where the real parts may differ. Assumes nothing.
-use mathlib.Core.Path.{_≡_, refl}
+use mathlib.Core.Path.{_≡_, refl, sym, _∙_}
 use mathlib.Core.Bool.{Bool, true, false, cond}
 use mathlib.Core.List.{List}
+use mathlib.Core.Logic.{_⊎_, inl, inr}
 use Prim.Native.Nat.{ℕ, zero, suc, _+_, _<_}
 use native.Mathlib.Omega.{arith}
 use lib.Dec.{eqb}
@@ -10,6 +11,7 @@ use Rattle.model.specs.Form.{at, entry, nonzeroBelow, twoBlock}
 use Rattle.model.specs.Schur22.{complex, valuesOf}
 use Rattle.model.specs.Values.{imagSizeAt, asItStands, standardisedFirst, readAt, Parts, BlockValues, oneValue, twoValues, valuesFrom, valuesLine, valuesRead, blockValues, standardisedValues}
 use Rattle.laws_values.specs.Rows.{OneBlock}
+use Rattle.laws_values.specs.Blocks.{UnlikeZeros}
 use Rattle.laws_values.specs.Forms.{AllStandard, AllLevel, ReadingsOfForms}
 use Rattle.laws_values.proofs.Blocks.{readings-of-blocks}
 use Rattle.laws_values.proofs.Rows.{rows-read, a-two}
@@ -113,6 +115,11 @@ module _ (f : Format) (ld n : ℕ) (t : List Float) (all : AllStandard f ld n t)
         go false b zero e = one (record { below = b; above = λ j g. absurd (omega (arith, e, g)) })
         go false b (suc j) e = below-it b j (omega arith) (twoBlock f ld n t j) refl
 
+    same-or-zeros : (j : ℕ) → twoBlock f ld n t j ≡ true → (entry ld t j j ≡ entry ld t (j + 1) (j + 1)) ⊎ UnlikeZeros f (entry ld t j j) (entry ld t (j + 1) (j + 1))
+        → (at (standardisedValues f ld n t s .parts .re) (j + 1) ≡ at (blockValues f ld n t s .parts .re) (j + 1)) ⊎ UnlikeZeros f (entry ld t j j) (entry ld t (j + 1) (j + 1))
+    same-or-zeros j b (inl e) = inl (new-second j b ∙ sym e ∙ sym (second-row j b))
+    same-or-zeros j b (inr z) = inr z
+
 pub readings-of-forms : ReadingsOfForms
 unfolding valuesRead
 readings-of-forms =
@@ -124,6 +131,8 @@ readings-of-forms =
             own = λ i h a. own-row f ld n t all s a i h;
             first = λ i h a above. first-row f ld n t all s a i h above;
             second = λ j a b. second-row f ld n t all s a j b;
+            same = λ i h a above. own-row f ld n t all s a i h ∙ sym (first-row f ld n t all s a i h above);
+            sameOrZeros = λ j a b p q. same-or-zeros f ld n t all s a j b (readings-of-blocks .equal f _ _ p q (all j b .level));
             all = λ level. rw (all-same f ld n t all level n 0 s (omega arith));
           };
     }
