@@ -85,3 +85,21 @@ pub fn size_above(t: &[f64], ld: usize, n: usize, p: usize) -> usize
     }
     1
 }
+
+// Going down, a 2-block's goal is a row less against a single row, and a single row's a row more
+// against a 2-block.
+pub fn goal_down(nbf: usize, nbl: usize, to: usize) -> usize
+    requires { ⌜ (1 ≤ to) × (to ≤ 64) × (nbf ≤ 2) × (nbl ≤ 2) × (1 ≤ nbf) × (1 ≤ nbl) ⌝ }
+    ensures { λ r. ⌜ (r ≡ Move.goalDown nbf nbl to) × (r + nbf ≤ to + nbl) ⌝ }
+{
+    if nbf == 2 {
+        if nbl == 1 {
+            return to - 1;
+        }
+        return to;
+    }
+    if nbl == 2 {
+        return to + 1;
+    }
+    to
+}

@@ -205,12 +205,15 @@ swapOf f ld n j n1 n2 t =
 unfoldable pub blockAt : Format → ℕ → List Float → ℕ → Block
 blockAt f ld t j = lahqrSchur22 f (entry ld t j j) (entry ld t j (j + 1)) (entry ld t (j + 1) j) (entry ld t (j + 1) (j + 1)) .block
 
-unfoldable pub standardise : Format → ℕ → ℕ → ℕ → List Float → Change
-standardise f ld n j t =
-    let b = blockAt f ld t j in
+-- the block b put there, and what lies right of and above it rotated
+abbrev pub standardiseBy : Format → ℕ → ℕ → ℕ → Block → List Float → Change
+standardiseBy f ld n j b t =
     let o = rotates (record { c = b .cs; s = b .sn }) j (j + 1) in
     record {
       form = onForm f ld n (j + 2) j o (put ld (j + 1) (j + 1) (b .d) (put ld (j + 1) j (b .c) (put ld j (j + 1) (b .b) (put ld j j (b .a) t))));
       operations = o ∷ [];
       runs = [];
     }
+
+unfoldable pub standardise : Format → ℕ → ℕ → ℕ → List Float → Change
+standardise f ld n j t = standardiseBy f ld n j (blockAt f ld t j) t

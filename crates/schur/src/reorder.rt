@@ -12,6 +12,7 @@ use crate::moving::Moving;
 use crate::moving::down_step;
 use crate::moving::up_step;
 use form::blocks::first_row;
+use form::blocks::goal_down;
 use form::blocks::size_at;
 use form::lines::move_line;
 
@@ -37,24 +38,6 @@ fn move_up(t: &mut [f64], u: &mut [f64], ld: usize, n: usize, goal: usize, m: Mo
         on = up_step(&mut *t, &mut *u, ld, n, on);
     }
     on
-}
-
-// Going down, a 2-block's goal is a row less against a single row, and a single row's a row more
-// against a 2-block.
-fn goal_down(nbf: usize, nbl: usize, to: usize) -> usize
-    requires { ⌜ (1 ≤ to) × (to ≤ 64) × (nbf ≤ 2) × (nbl ≤ 2) × (1 ≤ nbf) × (1 ≤ nbl) ⌝ }
-    ensures { λ r. ⌜ (r ≡ Move.goalDown nbf nbl to) × (r + nbf ≤ to + nbl) ⌝ }
-{
-    if nbf == 2 {
-        if nbl == 1 {
-            return to - 1;
-        }
-        return to;
-    }
-    if nbl == 2 {
-        return to + 1;
-    }
-    to
 }
 
 // The block in row `from` to row `to`, both first rows of blocks.

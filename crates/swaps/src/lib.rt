@@ -1,7 +1,7 @@
 // Inside (`schur`): the four swaps of neighbouring blocks, and a 2-block standardised in place.
 mod columns;
-mod kernels;
-mod operations;
+pub mod kernels;
+pub mod operations;
 pub mod standardise;
 pub mod swap_11;
 pub mod swap_12;

@@ -16,7 +16,7 @@ use schur22::lahqr_schur22::Block;
 use schur22::lahqr_schur22::lahqr_schur22;
 
 // The standard form of the block in rows j and j + 1.
-fn standard_block(t: &[f64], ld: usize, n: usize, j: usize) -> Block
+pub fn standard_block(t: &[f64], ld: usize, n: usize, j: usize) -> Block
     requires { ⌜ Sized ld n (now t) × (j + 2 ≤ n) ⌝ }
     ensures { λ r. ⌜ block r ≡ Swaps.blockAt binary64 ld (now (t .entry)) j ⌝ }
 {
@@ -29,7 +29,7 @@ fn standard_block(t: &[f64], ld: usize, n: usize, j: usize) -> Block
 }
 
 // The form with the block b in rows j and j + 1, and what lies right of and above it rotated.
-fn standard_form(t: &mut [f64], ld: usize, n: usize, j: usize, b: Block)
+pub fn standard_form(t: &mut [f64], ld: usize, n: usize, j: usize, b: Block)
     requires { ⌜ Sized ld n (now t) × (j + 2 ≤ n) ⌝ }
     ensures { λ _. ⌜ now (t .exit) ≡ standardForm ld n j (block b) (now (t .entry)) ⌝ }
 {

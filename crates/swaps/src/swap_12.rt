@@ -39,7 +39,7 @@ fn reflectors_3(a: Triple, b: Triple) -> Reflectors3
 }
 
 // The reflections that exchange row j with rows j + 1 and j + 2.
-fn reflectors_12(t: &[f64], ld: usize, n: usize, j: usize) -> Reflectors3
+pub fn reflectors_12(t: &[f64], ld: usize, n: usize, j: usize) -> Reflectors3
     requires { ⌜ Sized ld n (now t) × (j + 3 ≤ n) ⌝ }
     ensures { λ r. ⌜ reflection3 r ≡ Swaps.reflectors12 binary64 ld (now (t .entry)) j ⌝ }
 {
@@ -58,7 +58,7 @@ fn reflectors_12(t: &[f64], ld: usize, n: usize, j: usize) -> Reflectors3
 }
 
 // The reflections that exchange rows j and j + 1 with row j + 2, in reversed order.
-fn reflectors_21(t: &[f64], ld: usize, n: usize, j: usize) -> Reflectors3
+pub fn reflectors_21(t: &[f64], ld: usize, n: usize, j: usize) -> Reflectors3
     requires { ⌜ Sized ld n (now t) × (j + 3 ≤ n) ⌝ }
     ensures { λ r. ⌜ reflection3 r ≡ Swaps.reflectors21 binary64 ld (now (t .entry)) j ⌝ }
 {
@@ -77,7 +77,7 @@ fn reflectors_21(t: &[f64], ld: usize, n: usize, j: usize) -> Reflectors3
 }
 
 // The form after the exchange of row j with the two below it.
-fn form_12(t: &mut [f64], ld: usize, n: usize, j: usize, v: Reflectors3)
+pub fn form_12(t: &mut [f64], ld: usize, n: usize, j: usize, v: Reflectors3)
     requires { ⌜ Sized ld n (now t) × (j + 3 ≤ n) ⌝ }
     ensures { λ _. ⌜ now (t .exit) ≡ form12 ld n j (reflection3 v) (now (t .entry)) ⌝ }
 {
@@ -87,7 +87,7 @@ fn form_12(t: &mut [f64], ld: usize, n: usize, j: usize, v: Reflectors3)
 }
 
 // The form after the exchange of rows j and j + 1 with the one below them.
-fn form_21(t: &mut [f64], ld: usize, n: usize, j: usize, v: Reflectors3)
+pub fn form_21(t: &mut [f64], ld: usize, n: usize, j: usize, v: Reflectors3)
     requires { ⌜ Sized ld n (now t) × (j + 3 ≤ n) ⌝ }
     ensures { λ _. ⌜ now (t .exit) ≡ form21 ld n j (reflection3 v) (now (t .entry)) ⌝ }
 {

@@ -1,12 +1,12 @@
--- `schur::reorder::goal_down` meets its contract. Assumes nothing.
+-- `form::blocks::goal_down` meets its contract. Assumes nothing.
 use mathlib.Core.Path.{_≡_}
 use Rattle.model.specs.Move.{goalDown}
 use borrow.Author.Tests.{eq-eqb, ne-eqb, lt-ltb, le-ltb}
 use mathlib.Core.Path.{refl, sym, _∙_}
 use native.Mathlib.Omega.{arith}
 use borrow.Author.Needs.{needs}
-use Rattle.schur.proofs.reorder.goal_down.Statement.{statement}
-use Rattle.schur.proofs.reorder.goal_down.Tie as tie
+use Rattle.form.proofs.blocks.goal_down.Statement.{statement}
+use Rattle.form.proofs.blocks.goal_down.Tie as tie
 
 sub-result : tie.Need-sub-result
 sub-result c = search needs
