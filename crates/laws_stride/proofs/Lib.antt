@@ -6,6 +6,7 @@ pub mod Tests
 pub mod Lines
 pub mod Operations
 pub mod Changes
+pub mod Control
 pub mod Walk
 pub mod Calls
 pub mod Values
