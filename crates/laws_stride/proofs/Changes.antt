@@ -1,17 +1,19 @@
--- Two forms in a relation that goes by their n rows. The four swaps, standardising, and the exchange of rows below n do the same operations and runs on both, and keep the relation. Assumes nothing.
+-- Two forms in a relation that goes by their n rows. The four swaps, standardising, the exchange of rows below n and the tried one do the same operations and runs on both, and keep the relation. Assumes nothing.
 use mathlib.Core.Path.{_≡_, refl, ap₂}
 use Prim.Native.Nat.{ℕ, zero, suc, _+_, _≤_, _<_}
 use native.Mathlib.Omega.{arith}
-use mathlib.Core.Bool.{_&&_}
+use mathlib.Core.Bool.{_&&_, cond}
 use mathlib.Core.List.{List, _++_}
 use lib.Dec.{eqb}
 use lib.Ieee.{Float, Format}
 use borrow.Author.Tests.{eqb-true, eqb-false}
 use Rattle.model.specs.Arith.{zeroOf}
 use Rattle.model.specs.Form.{zeroBelow}
+use Rattle.model.specs.Schur22.{Block}
 use Rattle.model.specs.Columns.{Operation}
-use Rattle.model.specs.Swaps.{Change, unchanged, swapped, andThen, rotation11, swap11, reflectors12, swap12, reflectors21, swap21, windowColumn, windowAt, reflectors4, solutionOf, declines, swap22By, swap22, swapOf, blockAt, standardise}
+use Rattle.model.specs.Swaps.{Change, unchanged, swapped, declining, andThen, rotation11, swap11, reflectors12, swap12, reflectors21, swap21, windowColumn, windowAt, reflectors4, solutionOf, declines, swap22By, swap22, swapOf, blockAt, standardiseBy, standardise}
 use Rattle.model.specs.Exchange.{standardiseIf, exchangeWhole, exchangeBy, exchange}
+use Rattle.model.specs.Stopping.{tripleIn, windowOf, fails12, fails21, fails22, testFails, exchangedB, standardiseAlso, tryExchange}
 use Rattle.laws_stride.proofs.Tests.{guarded, is-two, branch}
 use Rattle.laws_stride.proofs.Rowwise.{Rowwise, zero-same, cell, set-at}
 use Rattle.laws_stride.proofs.Operations.{Inside, AllInside, inside-append, on-form}
@@ -30,6 +32,14 @@ pub record Alike (n : ℕ) (R : List Float → List Float → Type 0) (c d : Cha
   pub operations : c .operations ≡ d .operations
   pub inside : AllInside n (c .operations)
   pub runs : c .runs ≡ d .runs
+
+-- ---- a swap, and standardising after it, with whatever is done to the block that standardising gives
+
+standardiseWith : (Block → Block) → Format → ℕ → ℕ → ℕ → ℕ → List Float → Change
+standardiseWith g f ld n size j t = cond (eqb size 2) (standardiseBy f ld n j (g (blockAt f ld t j)) t) (unchanged t)
+
+swapWith : (Block → Block) → Format → ℕ → ℕ → ℕ → ℕ → ℕ → List Float → Change
+swapWith g f ld n j n1 n2 t = andThen (andThen (swapOf f ld n j n1 n2 t) (standardiseWith g f ld n n2 j)) (standardiseWith g f ld n n1 (j + n2))
 
 module _ (f : Format) (ld md n : ℕ) (R : List Float → List Float → Type 0) (K : Rowwise ld md n R) where
   -- ---- nothing, and one change after another
@@ -54,6 +64,10 @@ module _ (f : Format) (ld md n : ℕ) (R : List Float → List Float → Type 0)
   alike-swapped : (j n1 n2 : ℕ) (o : Operation) {a b : List Float} → Inside n o → R a b → Alike n R (swapped j n1 n2 a o) (swapped j n1 n2 b o)
   unfolding AllInside
   alike-swapped j n1 n2 o h r = record { forms = r; operations = refl; inside = (h, tt); runs = refl }
+
+  alike-declining : (j n1 n2 : ℕ) {a b : List Float} → R a b → Alike n R (declining j n1 n2 a) (declining j n1 n2 b)
+  unfolding AllInside
+  alike-declining j n1 n2 r = record { forms = r; operations = refl; inside = tt; runs = refl }
 
   module _ (j : ℕ) {a b : List Float} (r : R a b) where
     rotation11-same : j + 1 < n → rotation11 f ld a j ≡ rotation11 f md b j
@@ -109,11 +123,11 @@ module _ (f : Format) (ld md n : ℕ) (R : List Float → List Float → Type 0)
     window-same h = rw (column-same j h (omega arith), column-same (j + 1) h (omega arith), column-same (j + 2) h (omega arith), column-same (j + 3) h (omega arith))
 
     alike22 : j + 3 < n → Alike n R (swap22 f ld n j a) (swap22 f md n j b)
-    unfolding swap22 swap22By Inside AllInside
+    unfolding swap22 swap22By Inside
     alike22 h =
         rw (window-same h)
         (branch (Alike n R) (declines f (reflectors4 f (solutionOf f (windowAt md b j))) (windowAt md b j)) refl
-        (λ _. record { forms = r; operations = refl; inside = tt; runs = refl })
+        (λ _. alike-declining j 2 2 r)
         (λ _. alike-swapped j 2 2 _ rows
         (K .puts (j + 3) (j + 1) (zeroOf f) h (omega arith) (K .puts (j + 3) j (zeroOf f) h (omega arith) (K .puts (j + 2) (j + 1) (zeroOf f) (omega arith) (omega arith) (K .puts (j + 2) j (zeroOf f) (omega arith) (omega arith)
         (on-form f ld md n R K j (j + 4) _ (omega arith) rows r)))))))
@@ -127,21 +141,42 @@ module _ (f : Format) (ld md n : ℕ) (R : List Float → List Float → Type 0)
         let p : j < n = omega arith in
         cc (K .reads r .same j j p p, K .reads r .same j (j + 1) p h, K .reads r .same (j + 1) j h p, K .reads r .same (j + 1) (j + 1) h h)
 
-    alike-standardise : j + 1 < n → Alike n R (standardise f ld n j a) (standardise f md n j b)
-    unfolding standardise Inside AllInside
-    alike-standardise h =
-        rw (block-same h)
-        (record {
+    alike-standardise : (x : Block) → j + 1 < n → Alike n R (standardiseBy f ld n j x a) (standardiseBy f md n j x b)
+    unfolding Inside AllInside
+    alike-standardise x h =
+        record {
           forms =
               on-form f ld md n R K (j + 2) j _ (omega arith) rows
               (K .puts (j + 1) (j + 1) _ h h (K .puts (j + 1) j _ h (omega arith) (K .puts j (j + 1) _ (omega arith) h (K .puts j j _ (omega arith) (omega arith) r))));
           operations = refl;
           inside = (rows, tt);
           runs = refl;
-        })
+        }
       where
         rows : (j < n) × (j + 1 < n)
         rows = omega arith
+
+    -- ---- the tests of a tried exchange
+
+    triple-same : (p q o col : ℕ) → p < n → q < n → o < n → col < n → tripleIn ld a p q o col ≡ tripleIn md b p q o col
+    unfolding tripleIn
+    triple-same p q o col x y z h = rw (K .reads r .same p col x h, K .reads r .same q col y h, K .reads r .same o col z h)
+
+    window3-same : (p q o : ℕ) → p < n → q < n → o < n → windowOf ld a p q o ≡ windowOf md b p q o
+    unfolding windowOf
+    window3-same p q o x y z = rw (triple-same p q o p x y z x, triple-same p q o q x y z y, triple-same p q o o x y z z)
+
+    fails12-same : j + 2 < n → fails12 f ld a j ≡ fails12 f md b j
+    unfolding fails12
+    fails12-same h = rw (window3-same j (j + 1) (j + 2) (omega arith) (omega arith) h, reflectors12-same h)
+
+    fails21-same : j + 2 < n → fails21 f ld a j ≡ fails21 f md b j
+    unfolding fails21
+    fails21-same h = rw (window3-same (j + 2) (j + 1) j h (omega arith) (omega arith), reflectors21-same h)
+
+    fails22-same : j + 3 < n → fails22 f ld a j ≡ fails22 f md b j
+    unfolding fails22
+    fails22-same h = rw (window-same h)
 
   -- ---- the exchange
 
@@ -152,14 +187,19 @@ module _ (f : Format) (ld md n : ℕ) (R : List Float → List Float → Type 0)
       (λ d. branch (Alike n R) (eqb n2 1) refl (λ e. alike11 j r (omega arith)) (λ e. let q = eqb-false n2 1 e in alike12 j r (omega arith)))
       (λ d. let p = eqb-false n1 1 d in branch (Alike n R) (eqb n2 1) refl (λ e. alike21 j r (omega arith)) (λ e. let q = eqb-false n2 1 e in alike22 j r (omega arith)))
 
-  alike-standardise-if : (size j : ℕ) {a b : List Float} → j + size ≤ n → R a b → Alike n R (standardiseIf f ld n size j a) (standardiseIf f md n size j b)
-  unfolding standardiseIf
-  alike-standardise-if size j h r = branch (Alike n R) (eqb size 2) refl (λ e. let q = eqb-true size 2 e in alike-standardise j r (omega arith)) (λ _. alike-unchanged r)
+  alike-standardise-with : (g : Block → Block) (size j : ℕ) {a b : List Float} → j + size ≤ n → R a b → Alike n R (standardiseWith g f ld n size j a) (standardiseWith g f md n size j b)
+  unfolding standardiseWith
+  alike-standardise-with g size j h r =
+      branch (Alike n R) (eqb size 2) refl (λ e. let q = eqb-true size 2 e in rw (block-same j r (omega arith)) (alike-standardise j r _ (omega arith))) (λ _. alike-unchanged r)
+
+  alike-with : (g : Block → Block) (j n1 n2 : ℕ) {a b : List Float} → Room n j n1 n2 → R a b → Alike n R (swapWith g f ld n j n1 n2 a) (swapWith g f md n j n1 n2 b)
+  unfolding swapWith
+  alike-with g j n1 n2 w r =
+      alike-then _ _ (alike-then _ _ (alike-swap j n1 n2 w r) (λ s. alike-standardise-with g n2 j (omega arith) s)) (λ s. alike-standardise-with g n1 (j + n2) (omega arith) s)
 
   alike-whole : (j n1 n2 : ℕ) {a b : List Float} → Room n j n1 n2 → R a b → Alike n R (exchangeWhole f ld n j n1 n2 a) (exchangeWhole f md n j n1 n2 b)
-  unfolding exchangeWhole
-  alike-whole j n1 n2 w r =
-      alike-then _ _ (alike-then _ _ (alike-swap j n1 n2 w r) (λ s. alike-standardise-if n2 j (omega arith) s)) (λ s. alike-standardise-if n1 (j + n2) (omega arith) s)
+  unfolding exchangeWhole swapWith standardiseIf standardise standardiseWith
+  alike-whole = alike-with (λ x. x)
 
   alike-by : (k j n1 n2 : ℕ) {a b : List Float} → Room n j n1 n2 → R a b → Alike n R (exchangeBy k f ld n j n1 n2 a) (exchangeBy k f md n j n1 n2 b)
   unfolding exchangeBy
@@ -174,3 +214,16 @@ module _ (f : Format) (ld md n : ℕ) (R : List Float → List Float → Type 0)
   pub alike-exchange : (j n1 n2 : ℕ) {a b : List Float} → Room n j n1 n2 → R a b → Alike n R (exchange f ld n j n1 n2 a) (exchange f md n j n1 n2 b)
   unfolding exchange
   alike-exchange j n1 n2 w r = alike-by (n1 + n2) j n1 n2 w r
+
+  -- ---- the tried exchange
+
+  test-same : (j n1 n2 : ℕ) {a b : List Float} → Room n j n1 n2 → R a b → testFails f ld a j n1 n2 ≡ testFails f md b j n1 n2
+  unfolding testFails
+  test-same j n1 n2 w r =
+      branch _≡_ (eqb n1 1) refl
+      (λ d. branch _≡_ (eqb n2 1) refl (λ e. refl) (λ e. let q = eqb-false n2 1 e in fails12-same j r (omega arith)))
+      (λ d. let p = eqb-false n1 1 d in branch _≡_ (eqb n2 1) refl (λ e. fails21-same j r (omega arith)) (λ e. let q = eqb-false n2 1 e in fails22-same j r (omega arith)))
+
+  pub alike-try : (j n1 n2 : ℕ) {a b : List Float} → Room n j n1 n2 → R a b → Alike n R (tryExchange f ld n j n1 n2 a) (tryExchange f md n j n1 n2 b)
+  unfolding tryExchange swapWith standardiseAlso standardiseWith
+  alike-try j n1 n2 {a} w r = branch (Alike n R) (testFails f ld a j n1 n2) (test-same j n1 n2 w r) (λ _. alike-declining j n1 n2 r) (λ _. alike-with (exchangedB f) j n1 n2 w r)

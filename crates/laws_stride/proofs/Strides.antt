@@ -11,15 +11,15 @@ use Rattle.laws_moves.proofs.Upper.{or-right, at-least}
 use Rattle.laws_stride.specs.Beyond.{RowsBeyond}
 use Rattle.laws_stride.specs.Strides.{Allowed, TwoStrides, LikeBase}
 use Rattle.laws_stride.proofs.Base.{stride-n, stride-is-n}
-use Rattle.laws_stride.proofs.Calls.{moves, exchanges, move-form, move-factor, exchange-form, exchange-factor}
+use Rattle.laws_stride.proofs.Calls.{moves, stopping-moves, exchanges, move-form, move-factor, stopping-form, stopping-factor, exchange-form, exchange-factor}
 use Rattle.laws_stride.proofs.Values.{same-values, same-column}
 use Rattle.laws_stride.proofs.Vectors.{same-vectors, vectors-beyond}
 
 pub rows-beyond : RowsBeyond
-rows-beyond = record { moveForm = move-form; moveFactor = move-factor; exchangeForm = exchange-form; exchangeFactor = exchange-factor; vectors = vectors-beyond }
+rows-beyond = record { moveForm = move-form; moveFactor = move-factor; stoppingForm = stopping-form; stoppingFactor = stopping-factor; exchangeForm = exchange-form; exchangeFactor = exchange-factor; vectors = vectors-beyond }
 
 pub two-strides : TwoStrides
-two-strides = record { moves = moves; exchanges = exchanges; values = same-values; vectors = same-vectors; column = same-column }
+two-strides = record { moves = moves; stoppingMoves = stopping-moves; exchanges = exchanges; values = same-values; vectors = same-vectors; column = same-column }
 
 -- where a stride is allowed, n is
 with-n : (ld n : ℕ) → line17 ld n ≡ false → Allowed ld n n

@@ -1,25 +1,27 @@
--- Two moves beside each other, each by its own stride, over any relation of changes that makes the n rows read alike and that an exchange of rows below n keeps. Both make the same exchanges and end in the same row, with the relation kept. Assumes nothing.
+-- Two moves beside each other, each by its own stride and with its own exchange, over any relation of changes that makes the n rows read alike, that an exchange of rows below n keeps, and under which both decline or neither. Both make the same exchanges, stop or do not, and end in the same row, with the relation kept. 01's move and the move that stops are two cases. Assumes nothing.
 use mathlib.Core.Path.{_≡_, refl, ap, ap₂}
 use Prim.Native.Nat.{ℕ, zero, suc, _+_, _-_, _≤_, _<_}
 use native.Mathlib.Decide.{ℕ-discrete}
 use native.Mathlib.Omega.{arith}
-use mathlib.Core.Bool.{Bool, true, false, _&&_, cond}
+use mathlib.Core.Bool.{Bool, true, false, not, _&&_, cond}
 use mathlib.Core.List.{List, [], _∷_, _++_}
 use lib.Dec.{eqb, ltb, leb}
 use lib.Ieee.{Float, Format}
 use borrow.Author.Tests.{eqb-true, eqb-false, ltb-true, leb-true}
 use Rattle.model.specs.Form.{zeroBelow, nonzeroBelow, twoBlock}
-use Rattle.model.specs.Swaps.{Change, unchanged, andThen}
-use Rattle.model.specs.Exchange.{exchange}
-use Rattle.model.specs.Move.{firstRow, sizeAt, sizeAbove, Exchange, Moving, exchanging, arrived, landedWhole, downWhole, downPastTwo, downApart, downStep, downBy, upWhole, upPastTwo, upApart, upStep, upBy, goalDown, moveFrom, move}
+use Rattle.model.specs.Swaps.{Change, unchanged, andThen, declinedOf}
+use Rattle.model.specs.Move.{firstRow, sizeAt, sizeAbove, Exchange, Moving, arrived, landedWhole, goalDown}
+use Rattle.model.specs.Stopping.{Kind, Going, goes, onward, trying, wholeDown, pastTwoDown, apartDown, stepDown, walkDown, wholeUp, pastTwoUp, apartUp, stepUp, walkUp, walkFrom, walk}
 use Rattle.laws_stride.proofs.Tests.{guarded, is-two, branch}
 use Rattle.laws_stride.proofs.Rowwise.{ReadsAs, zero-same, nonzero-same}
 use Rattle.laws_stride.proofs.Changes.{Room}
 
--- such a relation
-pub record Exchanges (f : Format) (ld md n : ℕ) (Q : Change → Change → Type 0) : Type 0 where
+-- such a relation, for moves of the kinds k and l, that stop alike
+pub record Exchanges (ld md n : ℕ) (k l : Kind) (Q : Change → Change → Type 0) : Type 0 where
   pub reads : {c d : Change} → Q c d → ReadsAs ld md n (c .form) (d .form)
-  pub more : (j n1 n2 : ℕ) {c d : Change} → Room n j n1 n2 → Q c d → Q (andThen c (exchange f ld n j n1 n2)) (andThen d (exchange f md n j n1 n2))
+  pub more : (j n1 n2 : ℕ) {c d : Change} → Room n j n1 n2 → Q c d → Q (andThen c (k .exchange j n1 n2)) (andThen d (l .exchange j n1 n2))
+  pub declines : (j n1 n2 : ℕ) {c d : Change} → Room n j n1 n2 → Q c d → declinedOf (k .exchange j n1 n2 (c .form)) ≡ declinedOf (l .exchange j n1 n2 (d .form))
+  pub stops : k .stops ≡ l .stops
 
 -- Where a block of s rows stands below n while it moves: nbf is s, or 3 where two rows have split.
 pub record Standing (n s here nbf : ℕ) : Type 0 where
@@ -36,6 +38,11 @@ pub record Beside (n : ℕ) (Q : Change → Change → Type 0) (s : ℕ) (m w : 
   pub exchanges : m .exchanges ≡ w .exchanges
   pub change : Q (m .change) (w .change)
   pub stands : Standing n s (m .here) (m .nbf)
+
+-- and that have stopped both, or neither
+pub record Abreast (n : ℕ) (Q : Change → Change → Type 0) (s : ℕ) (g h : Going) : Type 0 where
+  pub stopped : g .stopped ≡ h .stopped
+  pub moving : Beside n Q s (g .moving) (h .moving)
 
 -- ---- sizes
 
@@ -82,7 +89,7 @@ landed : {n s here k : ℕ} (row : ℕ) (b : Bool) → row + s ≤ n → Standin
 landed row true h w e = let q = e refl in omega arith
 landed row false h w e = omega arith
 
-module _ (f : Format) (ld md n : ℕ) (Q : Change → Change → Type 0) (K : Exchanges f ld md n Q) where
+module _ (f : Format) (ld md n : ℕ) (k l : Kind) (Q : Change → Change → Type 0) (K : Exchanges ld md n k l Q) where
   -- ---- what is read
 
   zero-at : {c d : Change} (j : ℕ) {j' : ℕ} → j ≡ j' → j + 1 < n → Q c d → zeroBelow f ld (c .form) j ≡ zeroBelow f md (d .form) j'
@@ -106,127 +113,150 @@ module _ (f : Format) (ld md n : ℕ) (Q : Change → Change → Type 0) (K : Ex
     abbrev Pair : Moving → Moving → Type 0
     Pair = Beside n Q s
 
-    exchange-more : (j n1 n2 : ℕ) {j' n1' n2' : ℕ} {m w : Moving} → j ≡ j' → n1 ≡ n1' → n2 ≡ n2' → Room n j n1 n2 → Pair m w → Pair (exchanging f ld n j n1 n2 m) (exchanging f md n j' n1' n2' w)
-    unfolding exchanging
-    exchange-more j n1 n2 p q r h b =
+    abbrev Both : Going → Going → Type 0
+    Both = Abreast n Q s
+
+    on : {m w : Moving} → Pair m w → Both (goes m) (goes w)
+    on b = record { stopped = refl; moving = b }
+
+    -- on with both, unless they have stopped
+    both-onward : {g h : Going} (next next' : Moving → Going) → Both g h → (Pair (g .moving) (h .moving) → Both (next (g .moving)) (next' (h .moving))) → Both (onward g next) (onward h next')
+    unfolding onward
+    both-onward {g} next next' b more = branch Both (g .stopped) (b .stopped) (λ _. b) (λ _. more (b .moving))
+
+    both-try : (j n1 n2 : ℕ) {j' n1' n2' : ℕ} {m w : Moving} → j ≡ j' → n1 ≡ n1' → n2 ≡ n2' → Room n j n1 n2 → Pair m w → Both (trying k j n1 n2 m) (trying l j' n1' n2' w)
+    unfolding trying
+    both-try j n1 n2 p q r h b =
         rw (← p, ← q, ← r)
         (record {
-          here = b .here;
-          nbf = b .nbf;
-          exchanges = ap (λ (l : List Exchange). l ++ (record { row = j; n1 = n1; n2 = n2 } ∷ [])) (b .exchanges);
-          change = K .more j n1 n2 h (b .change);
-          stands = b .stands;
+          stopped = ap₂ (λ (x : Bool) (i : ℕ). x && not (eqb i 0)) (K .stops) (K .declines j n1 n2 h (b .change));
+          moving =
+              record {
+                here = b .here;
+                nbf = b .nbf;
+                exchanges = ap (λ (es : List Exchange). es ++ (record { row = j; n1 = n1; n2 = n2 } ∷ [])) (b .exchanges);
+                change = K .more j n1 n2 h (b .change);
+                stands = b .stands;
+              };
         })
 
-    arrive : (row : ℕ) {row' : ℕ} {m w : Moving} → row ≡ row' → row + s ≤ n → Pair m w → Pair (arrived row m) (arrived row' w)
+    arrive : (row : ℕ) {row' : ℕ} {m w : Moving} → row ≡ row' → row + s ≤ n → Pair m w → Both (goes (arrived row m)) (goes (arrived row' w))
     unfolding arrived
-    arrive row e h b = record { here = e; nbf = b .nbf; exchanges = b .exchanges; change = b .change; stands = omega arith }
+    arrive row e h b = on (record { here = e; nbf = b .nbf; exchanges = b .exchanges; change = b .change; stands = omega arith })
 
-    land : (row : ℕ) {row' : ℕ} {m w : Moving} → row ≡ row' → row + s ≤ n → Pair m w → Pair (landedWhole f ld row m) (landedWhole f md row' w)
+    land : (row : ℕ) {row' : ℕ} {m w : Moving} → row ≡ row' → row + s ≤ n → Pair m w → Both (goes (landedWhole f ld row m)) (goes (landedWhole f md row' w))
     unfolding landedWhole
     land row {m = m} {w} e h b =
         rw (← e)
+        (on
         (record {
           here = refl;
           nbf = rw (b .nbf) (ap (λ (x : Bool). cond x 3 (w .nbf)) (guarded (eqb (w .nbf) 2) _ _ (λ e. let q = eqb-true (w .nbf) 2 e in zero-same f row (omega arith) (K .reads (b .change)))));
           exchanges = b .exchanges;
           change = b .change;
           stands = landed row _ h (b .stands) (is-two (m .nbf) _);
-        })
+        }))
 
     -- ---- down
 
-    down-whole : {m w : Moving} → m .here + s < n → eqb (m .nbf) 3 ≡ false → Pair m w → Pair (downWhole f ld n m) (downWhole f md n w)
-    unfolding downWhole
-    down-whole {m} h e b =
+    whole-down : {m w : Moving} → m .here + s < n → eqb (m .nbf) 3 ≡ false → Pair m w → Both (wholeDown k f ld n m) (wholeDown l f md n w)
+    unfolding wholeDown
+    whole-down {m} h e b =
         let d = eqb-false (m .nbf) 3 e in
         let x = size-in f ld n (m .here + m .nbf) (m .change .form) (omega arith) in
         let q = size-same (m .here + m .nbf) (ap₂ _+_ (b .here) (b .nbf)) (b .change) in
-        land _ (ap₂ _+_ (b .here) q) (omega arith) (exchange-more _ _ _ (b .here) (b .nbf) q (omega arith) b)
+        both-onward _ _ (both-try _ _ _ (b .here) (b .nbf) q (omega arith) b) (land _ (ap₂ _+_ (b .here) q) (omega arith))
 
-    down-past : {m w : Moving} → m .here + 4 ≤ n → Pair m w → Pair (downPastTwo f ld n m) (downPastTwo f md n w)
-    unfolding downPastTwo
-    down-past {m} h b =
+    past-two-down : {m w : Moving} → m .here + 4 ≤ n → Pair m w → Both (pastTwoDown k f ld n m) (pastTwoDown l f md n w)
+    unfolding pastTwoDown
+    past-two-down {m} h b =
         let p = ap (_+ 1) (b .here) in
-        arrive _ (ap (_+ 2) (b .here)) (omega arith)
-        (branch Pair (zeroBelow f ld (m .change .form) (m .here + 1)) (zero-at _ p (omega arith) (b .change))
-        (λ _. exchange-more _ 1 1 p refl refl (omega arith) (exchange-more _ 1 1 (b .here) refl refl (omega arith) b))
-        (λ _. exchange-more _ 1 2 (b .here) refl refl (omega arith) b))
+        both-onward _ _
+        (branch Both (zeroBelow f ld (m .change .form) (m .here + 1)) (zero-at _ p (omega arith) (b .change))
+        (λ _. both-onward _ _ (both-try _ 1 1 (b .here) refl refl (omega arith) b) (both-try _ 1 1 p refl refl (omega arith)))
+        (λ _. both-try _ 1 2 (b .here) refl refl (omega arith) b))
+        (arrive _ (ap (_+ 2) (b .here)) (omega arith))
 
-    down-apart : {m w : Moving} → m .here + s < n → eqb (m .nbf) 3 ≡ true → Pair m w → Pair (downApart f ld n m) (downApart f md n w)
-    unfolding downApart exchanging
-    down-apart {m} h e b =
+    apart-down : {m w : Moving} → m .here + s < n → eqb (m .nbf) 3 ≡ true → Pair m w → Both (apartDown k f ld n m) (apartDown l f md n w)
+    unfolding apartDown trying
+    apart-down {m} h e b =
         let d = eqb-true (m .nbf) 3 e in
         let next = sizeAt f ld n (m .change .form) (m .here + 2) in
         let x = size-in f ld n (m .here + 2) (m .change .form) (omega arith) in
         let q = size-same (m .here + 2) (ap (_+ 2) (b .here)) (b .change) in
         let p = ap (_+ 1) (b .here) in
-        let c = exchange-more (m .here + 1) 1 next p refl q (omega arith) b in
-        branch Pair (eqb next 1) (ap (λ (k : ℕ). eqb k 1) q) (λ _. arrive _ p (omega arith) (exchange-more _ 1 1 (b .here) refl refl (omega arith) c))
-        (λ g. let l = eqb-false next 1 g in down-past (omega arith) c)
+        both-onward _ _ (both-try (m .here + 1) 1 next p refl q (omega arith) b)
+        (λ c. branch Both (eqb next 1) (ap (λ (i : ℕ). eqb i 1) q) (λ _. both-onward _ _ (both-try _ 1 1 (b .here) refl refl (omega arith) c) (arrive _ p (omega arith)))
+        (λ g. let o = eqb-false next 1 g in past-two-down (omega arith) c))
 
-    down-step : {m w : Moving} → m .here + s < n → Pair m w → Pair (downStep f ld n m) (downStep f md n w)
-    unfolding downStep
-    down-step {m} h b = branch Pair (eqb (m .nbf) 3) (ap (λ (k : ℕ). eqb k 3) (b .nbf)) (λ e. down-apart h e b) (λ e. down-whole h e b)
+    step-down : {m w : Moving} → m .here + s < n → Pair m w → Both (stepDown k f ld n m) (stepDown l f md n w)
+    unfolding stepDown
+    step-down {m} h b = branch Both (eqb (m .nbf) 3) (ap (λ (i : ℕ). eqb i 3) (b .nbf)) (λ e. apart-down h e b) (λ e. whole-down h e b)
 
-    down-by : (k goal : ℕ) {m w : Moving} → goal + s ≤ n → Pair m w → Pair (downBy k f ld n goal m) (downBy k f md n goal w)
-    unfolding downBy
-    down-by zero goal h b = b
-    down-by (suc k) goal {m} h b =
-        branch Pair (ltb (m .here) goal) (ap (λ (i : ℕ). ltb i goal) (b .here)) (λ e. let l = ltb-true (m .here) goal e in down-by k goal h (down-step (omega arith) b)) (λ _. b)
+    walk-down : (i goal : ℕ) {m w : Moving} → goal + s ≤ n → Pair m w → Both (walkDown k i f ld n goal m) (walkDown l i f md n goal w)
+    unfolding walkDown
+    walk-down zero goal h b = on b
+    walk-down (suc i) goal {m} h b =
+        branch Both (ltb (m .here) goal) (ap (λ (x : ℕ). ltb x goal) (b .here))
+        (λ e. let o = ltb-true (m .here) goal e in both-onward _ _ (step-down (omega arith) b) (walk-down i goal h))
+        (λ _. on b)
 
     -- ---- up
 
-    up-whole : {m w : Moving} → 0 < m .here → eqb (m .nbf) 3 ≡ false → Pair m w → Pair (upWhole f ld n m) (upWhole f md n w)
-    unfolding upWhole
-    up-whole {m} h e b =
+    whole-up : {m w : Moving} → 0 < m .here → eqb (m .nbf) 3 ≡ false → Pair m w → Both (wholeUp k f ld n m) (wholeUp l f md n w)
+    unfolding wholeUp
+    whole-up {m} h e b =
         let d = eqb-false (m .nbf) 3 e in
         let x = above-in f ld (m .here) (m .change .form) h in
         let q = above-same (m .here) (b .here) (omega arith) (b .change) in
         let p = ap₂ _-_ (b .here) q in
-        land _ p (omega arith) (exchange-more _ _ _ p q (b .nbf) (omega arith) b)
+        both-onward _ _ (both-try _ _ _ p q (b .nbf) (omega arith) b) (land _ p (omega arith))
 
-    up-past : {m w : Moving} → 2 ≤ m .here → m .here + 2 ≤ n → Pair m w → Pair (upPastTwo f ld n m) (upPastTwo f md n w)
-    unfolding upPastTwo
-    up-past {m} h g b =
+    past-two-up : {m w : Moving} → 2 ≤ m .here → m .here + 2 ≤ n → Pair m w → Both (pastTwoUp k f ld n m) (pastTwoUp l f md n w)
+    unfolding pastTwoUp
+    past-two-up {m} h g b =
         let p = ap (_- 1) (b .here) in
-        arrive _ (ap (_- 2) (b .here)) (omega arith)
-        (branch Pair (zeroBelow f ld (m .change .form) (m .here - 1)) (zero-at _ p (omega arith) (b .change))
-        (λ _. exchange-more _ 1 1 p refl refl (omega arith) (exchange-more _ 1 1 (b .here) refl refl (omega arith) b))
-        (λ _. exchange-more _ 2 1 p refl refl (omega arith) b))
+        both-onward _ _
+        (branch Both (zeroBelow f ld (m .change .form) (m .here - 1)) (zero-at _ p (omega arith) (b .change))
+        (λ _. both-onward _ _ (both-try _ 1 1 (b .here) refl refl (omega arith) b) (both-try _ 1 1 p refl refl (omega arith)))
+        (λ _. both-try _ 2 1 p refl refl (omega arith) b))
+        (arrive _ (ap (_- 2) (b .here)) (omega arith))
 
-    up-apart : {m w : Moving} → 0 < m .here → eqb (m .nbf) 3 ≡ true → Pair m w → Pair (upApart f ld n m) (upApart f md n w)
-    unfolding upApart exchanging
-    up-apart {m} h e b =
+    apart-up : {m w : Moving} → 0 < m .here → eqb (m .nbf) 3 ≡ true → Pair m w → Both (apartUp k f ld n m) (apartUp l f md n w)
+    unfolding apartUp trying
+    apart-up {m} h e b =
         let d = eqb-true (m .nbf) 3 e in
         let next = sizeAbove f ld (m .change .form) (m .here) in
         let x = above-in f ld (m .here) (m .change .form) h in
         let q = above-same (m .here) (b .here) (omega arith) (b .change) in
-        let c = exchange-more (m .here - next) next 1 (ap₂ _-_ (b .here) q) q refl (omega arith) b in
-        branch Pair (eqb next 1) (ap (λ (k : ℕ). eqb k 1) q) (λ _. arrive _ (ap (_- 1) (b .here)) (omega arith) (exchange-more _ 1 1 (b .here) refl refl (omega arith) c))
-        (λ g. let l = eqb-false next 1 g in up-past (omega arith) (omega arith) c)
+        both-onward _ _ (both-try (m .here - next) next 1 (ap₂ _-_ (b .here) q) q refl (omega arith) b)
+        (λ c. branch Both (eqb next 1) (ap (λ (i : ℕ). eqb i 1) q)
+        (λ _. both-onward _ _ (both-try _ 1 1 (b .here) refl refl (omega arith) c) (arrive _ (ap (_- 1) (b .here)) (omega arith)))
+        (λ g. let o = eqb-false next 1 g in past-two-up (omega arith) (omega arith) c))
 
-    up-step : {m w : Moving} → 0 < m .here → Pair m w → Pair (upStep f ld n m) (upStep f md n w)
-    unfolding upStep
-    up-step {m} h b = branch Pair (eqb (m .nbf) 3) (ap (λ (k : ℕ). eqb k 3) (b .nbf)) (λ e. up-apart h e b) (λ e. up-whole h e b)
+    step-up : {m w : Moving} → 0 < m .here → Pair m w → Both (stepUp k f ld n m) (stepUp l f md n w)
+    unfolding stepUp
+    step-up {m} h b = branch Both (eqb (m .nbf) 3) (ap (λ (i : ℕ). eqb i 3) (b .nbf)) (λ e. apart-up h e b) (λ e. whole-up h e b)
 
-    up-by : (k goal : ℕ) {m w : Moving} → Pair m w → Pair (upBy k f ld n goal m) (upBy k f md n goal w)
-    unfolding upBy
-    up-by zero goal b = b
-    up-by (suc k) goal {m} b =
-        branch Pair (ltb goal (m .here)) (ap (λ (i : ℕ). ltb goal i) (b .here)) (λ e. let l = ltb-true goal (m .here) e in up-by k goal (up-step (omega arith) b)) (λ _. b)
+    walk-up : (i goal : ℕ) {m w : Moving} → Pair m w → Both (walkUp k i f ld n goal m) (walkUp l i f md n goal w)
+    unfolding walkUp
+    walk-up zero goal b = on b
+    walk-up (suc i) goal {m} b =
+        branch Both (ltb goal (m .here)) (ap (λ (x : ℕ). ltb goal x) (b .here))
+        (λ e. let o = ltb-true goal (m .here) e in both-onward _ _ (step-up (omega arith) b) (walk-up i goal))
+        (λ _. on b)
 
   -- ---- the move
 
   module _ (a b : List Float) (q : Q (unchanged a) (unchanged b)) where
-    move-from : (from to : ℕ) → from < n → to < n → Beside n Q (sizeAt f ld n a from) (moveFrom f ld n from to a) (moveFrom f md n from to b)
-    unfolding moveFrom
-    move-from from to h g =
-        branch (Pair s) (eqb from to) refl (λ _. start _ same)
-        (λ _. branch (Pair s) (ltb from to) refl
-        (λ e. let l = ltb-true from to e in
-        rw (← same, ← size-same to refl q) (down-by s n (goalDown s (sizeAt f ld n a to) to) (goal-below n s _ to (x .some) (x .most) (omega arith) g (size-in f ld n to a g)) (start s refl)))
-        (λ _. up-by s n to (start _ same)))
+    walk-from : (from to : ℕ) → from < n → to < n → Abreast n Q (sizeAt f ld n a from) (walkFrom k f ld n from to a) (walkFrom l f md n from to b)
+    unfolding walkFrom
+    walk-from from to h g =
+        branch (Both s) (eqb from to) refl (λ _. on s (start _ same))
+        (λ _. branch (Both s) (ltb from to) refl
+        (λ e. let o = ltb-true from to e in
+        rw (← same, ← size-same to refl q) (walk-down s n (goalDown s (sizeAt f ld n a to) to) (goal-below n s _ to (x .some) (x .most) (omega arith) g (size-in f ld n to a g)) (start s refl)))
+        (λ _. walk-up s n to (start _ same)))
       where
         s : ℕ
         s = sizeAt f ld n a from
@@ -237,12 +267,12 @@ module _ (f : Format) (ld md n : ℕ) (Q : Change → Change → Type 0) (K : Ex
         x : Size (n - from) s
         x = size-in f ld n from a h
 
-        start : (k : ℕ) → s ≡ k → Pair s (record { here = from; nbf = s; change = unchanged a; exchanges = [] }) (record { here = from; nbf = k; change = unchanged b; exchanges = [] })
-        start k e =
+        start : (i : ℕ) → s ≡ i → Pair s (record { here = from; nbf = s; change = unchanged a; exchanges = [] }) (record { here = from; nbf = i; change = unchanged b; exchanges = [] })
+        start i e =
             let y = x in
             record { here = refl; nbf = e; exchanges = refl; change = q; stands = omega arith }
 
-    pub move-beside : (from to : ℕ) → from < n → to < n → Beside n Q (sizeAt f ld n a (firstRow f ld a from)) (move f ld n from to a) (move f md n from to b)
-    unfolding move
-    move-beside from to h g =
-        rw (← first-same from h q, ← first-same to g q) (move-from _ _ (first-below f ld n from a h) (first-below f ld n to a g))
+    pub walk-abreast : (from to : ℕ) → from < n → to < n → Abreast n Q (sizeAt f ld n a (firstRow f ld a from)) (walk k f ld n from to a) (walk l f md n from to b)
+    unfolding walk
+    walk-abreast from to h g =
+        rw (← first-same from h q, ← first-same to g q) (walk-from _ _ (first-below f ld n from a h) (first-below f ld n to a g))

@@ -10,6 +10,7 @@ use lib.Ieee.{Float, Format}
 use Rattle.model.specs.Form.{entry, line17}
 use Rattle.model.specs.Exchange.{Exchanged, exchangeCall}
 use Rattle.model.specs.Move.{Moved, moveCall}
+use Rattle.model.specs.Stopping.{Stopped, stoppingCall}
 use Rattle.model.specs.Values.{Reading, Parts, valuesRead, blockValues}
 use Rattle.model.specs.Vectors.{Vectors, evdFromRealSchur, columnOf}
 use Rattle.laws_stride.specs.Base.{baseMove, baseExchange, baseValues, baseVectors, baseColumn}
@@ -37,6 +38,15 @@ pub record SameMoved (ld md n : ℕ) (r s : Moved) : Type 0 where
   pub form : SameRows ld md n (r .form) (s .form)
   pub factor : SameFactor ld md n (r .factor) (s .factor)
 
+pub record SameStopped (ld md n : ℕ) (r s : Stopped) : Type 0 where
+  pub answer : r .answer ≡ s .answer
+  pub stopped : r .stopped ≡ s .stopped
+  pub here : r .here ≡ s .here
+  pub swaps : r .swaps ≡ s .swaps
+  pub declined : r .declined ≡ s .declined
+  pub form : SameRows ld md n (r .form) (s .form)
+  pub factor : SameFactor ld md n (r .factor) (s .factor)
+
 pub record SameExchanged (ld md n : ℕ) (r s : Exchanged) : Type 0 where
   pub answer : r .answer ≡ s .answer
   pub swaps : r .swaps ≡ s .swaps
@@ -51,6 +61,8 @@ pub record SameVectors (ld md n : ℕ) (r s : Vectors) : Type 0 where
 pub record TwoStrides : Type 0 where
   pub moves : (f : Format) (ld md n : ℕ) (a b u v : List Float) (from to : ℕ) → Allowed ld md n → SameRows ld md n a b → SameFactor ld md n u v
       → SameMoved ld md n (moveCall f ld n a u from to) (moveCall f md n b v from to)
+  pub stoppingMoves : (f : Format) (ld md n : ℕ) (a b u v : List Float) (from to : ℕ) → Allowed ld md n → SameRows ld md n a b → SameFactor ld md n u v
+      → SameStopped ld md n (stoppingCall f ld n a u from to) (stoppingCall f md n b v from to)
   pub exchanges : (f : Format) (ld md n : ℕ) (a b u v : List Float) (j n1 n2 : ℕ) → Allowed ld md n → SameRows ld md n a b → SameFactor ld md n u v
       → SameExchanged ld md n (exchangeCall f ld n a u j n1 n2) (exchangeCall f md n b v j n1 n2)
   -- by any reading of a 2-block, so of block_values and standardised_values alike
