@@ -151,6 +151,7 @@ module _ (ld md n : ℕ) (w : Allowed ld md n) where
   same-rows u v (inl s) = rows-all ld n u fits (s .size) ∙ sym (rows-all md n v fits' (s .size'))
   same-rows u v (inr s) = rows-none n u (s .0) ∙ sym (rows-none n v (s .1))
 
+-- of moves of any kind
 calls : (f : Format) (ld md n : ℕ) (a b u v : List Float) (from to : ℕ) (k l : Kind) → (Rowwise ld md n (SameRows ld md n) → Kinds n (SameRows ld md n) k l)
     → Allowed ld md n → SameRows ld md n a b → SameFactor ld md n u v
     → StoppedBoth (SameRows ld md n) (SameFactor ld md n) (callBy k f ld n a u from to) (callBy l f md n b v from to)
