@@ -4,4 +4,5 @@ pub mod Upper
 pub mod Rows
 pub mod Move
 pub mod Lists
+pub mod BothKinds
 pub mod Worked

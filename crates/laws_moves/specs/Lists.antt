@@ -1,4 +1,4 @@
--- The rule on lists of moves (demand 3): what a list of moves does to a form, the row list that is worked beside it, and the claim about two lists. Definitions and the statement only: it is proved in proofs/Lists.antt. Assumes nothing.
+-- The rule on lists of moves (demand 3), each by 01's move or by the move that stops: what a list does to a form, the row list that is worked beside it, and the claim about two lists. Definitions and the statement only: it is proved in proofs/Lists.antt. Assumes nothing.
 -- All over the format: both widths are one statement.
 use mathlib.Core.Path.{_≡_}
 use Prim.Native.Nat.{ℕ, zero, suc, _+_, _*_, _<_}
@@ -9,23 +9,29 @@ use lib.ListN.{length, getD}
 use lib.Ieee.{Float, Format, isNan, toBits}
 use Rattle.model.specs.Form.{entry, zeroBelow, formLine}
 use Rattle.model.specs.Move.{moveCall}
+use Rattle.model.specs.Stopping.{stoppingCall}
 
 -- ---- a list of moves on a form
 
--- a move's two positions, and the factor that it brings, of any length and content
+-- a move's kind, by the move that stops or by 01's; its two positions, and the factor that it brings, of any length and content
 pub record Move : Type 0 where
+  pub stops : Bool
   pub from : ℕ
   pub to : ℕ
   pub factor : List Float
 
--- each move by the call's own definition, the one that the contract of reorder_schur cites, on the form as the move before left it; n and the stride stay from the first move to the last
+-- a move by its call's own definition, the one that the contract of reorder_schur_stopping or of reorder_schur cites
+unfoldable pub formMoved : Format → ℕ → ℕ → Move → List Float → List Float
+formMoved f ld n m t = cond (m .stops) (stoppingCall f ld n t (m .factor) (m .from) (m .to) .form) (moveCall f ld n t (m .factor) (m .from) (m .to) .form)
+
+-- each on the form as the move before left it; n and the stride stay from the first move to the last
 unfoldable pub formAfter : Format → ℕ → ℕ → List Move → List Float → List Float
 formAfter f ld n [] t = t
-formAfter f ld n (m ∷ ms) t = formAfter f ld n ms (moveCall f ld n t (m .factor) (m .from) (m .to) .form)
+formAfter f ld n (m ∷ ms) t = formAfter f ld n ms (formMoved f ld n m t)
 
 -- ---- the row list, by itself: it reads no number of a form or a factor, and no answer
 
--- what it is fed of a move, beside n and the stride: the two positions, and the factor's length
+-- what it is fed of a move, beside n and the stride: the two positions, and the factor's length; not its kind
 pub record Fed : Type 0 where
   pub from : ℕ
   pub to : ℕ
@@ -94,13 +100,38 @@ NoNanOnDiagonal f ld n a = (i : ℕ) → i < n → isNan (entry ld a i i) ≡ fa
 
 -- ---- the claim: two lists, each with a stride of its own, end in equal diagonals exactly when their row lists are equal
 
-abbrev pub ListsOfMoves : Type 0
-ListsOfMoves =
-    (f : Format) (ld md n : ℕ) (a b : List Float) (p q : List Move)
+-- of lists of any moves M: the form after a list of them, and what the row list is fed of it
+abbrev pub RuleOnLists : (M : Type 0) → (Format → ℕ → ℕ → List M → List Float → List Float) → (List M → List Fed) → Type 0
+RuleOnLists M after told =
+    (f : Format) (ld md n : ℕ) (a b : List Float) (p q : List M)
     → Triangular f ld n a
     → Triangular f md n b
     → SameBits f ld md n a b
     → PairwiseDifferentBits f ld n a
     → NoNanOnDiagonal f ld n a
-    → (SameBits f ld md n (formAfter f ld n p a) (formAfter f md n q b) → rowList ld n (fed p) ≡ rowList md n (fed q))
-    × (rowList ld n (fed p) ≡ rowList md n (fed q) → SameBits f ld md n (formAfter f ld n p a) (formAfter f md n q b))
+    → (SameBits f ld md n (after f ld n p a) (after f md n q b) → rowList ld n (told p) ≡ rowList md n (told q))
+    × (rowList ld n (told p) ≡ rowList md n (told q) → SameBits f ld md n (after f ld n p a) (after f md n q b))
+
+-- each move of either kind
+abbrev pub ListsOfMoves : Type 0
+ListsOfMoves = RuleOnLists Move formAfter fed
+
+-- ---- the same of lists of 01's move alone
+
+-- a move of 01's
+pub record PlainMove : Type 0 where
+  pub from : ℕ
+  pub to : ℕ
+  pub factor : List Float
+
+-- each by the definition that the contract of reorder_schur cites
+unfoldable pub formAfterMoves : Format → ℕ → ℕ → List PlainMove → List Float → List Float
+formAfterMoves f ld n [] t = t
+formAfterMoves f ld n (m ∷ ms) t = formAfterMoves f ld n ms (moveCall f ld n t (m .factor) (m .from) (m .to) .form)
+
+unfoldable pub fedMoves : List PlainMove → List Fed
+fedMoves [] = []
+fedMoves (m ∷ ms) = record { from = m .from; to = m .to; factorLength = length (m .factor) } ∷ fedMoves ms
+
+abbrev pub ListsOfOneKind : Type 0
+ListsOfOneKind = RuleOnLists PlainMove formAfterMoves fedMoves
