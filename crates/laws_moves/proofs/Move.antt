@@ -34,7 +34,7 @@ with-next f ld n j c = andThen c (exchange f ld n j 1 1)
 abbrev noted : ℕ → List Exchange → List Exchange
 noted j e = e ++ (record { row = j; n1 = 1; n2 = 1 } ∷ [])
 
--- dlaexc's exchange of two single rows is 01's, and neither declines
+-- two single rows have no test: the exchange of the move that stops is 01's, which declines nothing
 try-one : (f : Format) (ld n j : ℕ) (t : List Float) → tryExchange f ld n j 1 1 t ≡ exchange f ld n j 1 1 t
 unfolding tryExchange testFails standardiseAlso exchange exchangeBy exchangeWhole standardiseIf
 try-one f ld n j t = refl

@@ -13,7 +13,7 @@ use Rattle.model.specs.Stopping.{stoppingCall}
 
 -- ---- a list of moves on a form
 
--- a move's kind, by the move that stops or by 01's; its two positions, and the factor that it brings, of any length and content
+-- whether it is the move that stops or 01's; its two positions, and the factor that it brings, of any length and content
 pub record Move : Type 0 where
   pub stops : Bool
   pub from : ℕ

@@ -7,7 +7,7 @@ use borrow.Author.Tests.{ltb-true, not-false}
 use Rattle.model.specs.Form.{line2, line17, line3, line4, line5, line6, line7}
 use Rattle.model.specs.Move.{moveLine, moveCall}
 use Rattle.laws.proofs.InOrder.{passed}
-use Rattle.laws_moves.proofs.Lists.{lists-of-moves}
+use Rattle.laws_moves.proofs.Lists.{lists-of-moves, lists-of-one-kind}
 use Rattle.laws_dtrexc.proofs.Choice.{dtrexc-choice}
 use Rattle.laws_dtrexc.proofs.Zeros.{choice-reads-zeros, dtrexc-same-zeros}
 use Rattle.laws_exchange.proofs.Counts.{counts-of-exchange}
@@ -32,4 +32,4 @@ calls-choose f ld n t u from to h =
     record { call = rw h; choice = dtrexc-choice f ld n from to t (below n from (p7 .0)) (below n to (passed (line7 n to) 6 0 (p7 .1) .0)) }
 
 pub handed-over : HandedOver
-handed-over = record { lists = lists-of-moves; choice = calls-choose; zeros = choice-reads-zeros; sameZeros = dtrexc-same-zeros; counts = counts-of-exchange; beyond = rows-beyond; strides = two-strides; strideIsN = stride-is-n; likeBase = like-base }
+handed-over = record { lists = lists-of-one-kind; listsOfBoth = lists-of-moves; choice = calls-choose; zeros = choice-reads-zeros; sameZeros = dtrexc-same-zeros; counts = counts-of-exchange; beyond = rows-beyond; strides = two-strides; strideIsN = stride-is-n; likeBase = like-base }

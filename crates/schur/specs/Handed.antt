@@ -5,7 +5,7 @@ use mathlib.Core.Path.{_≡_}
 use mathlib.Core.List.{List}
 use lib.Ieee.{Float, Format}
 use Rattle.model.specs.Move.{moveLine, moved, move, moveCall}
-use Rattle.laws_moves.specs.Lists.{ListsOfMoves}
+use Rattle.laws_moves.specs.Lists.{ListsOfMoves, ListsOfOneKind}
 use Rattle.laws_dtrexc.specs.Choice.{lapack, SameChoice}
 use Rattle.laws_dtrexc.specs.Zeros.{ChoiceReadsZeros, DtrexcSameZeros}
 use Rattle.laws_exchange.specs.Counts.{CountsOfExchange}
@@ -22,8 +22,9 @@ abbrev pub CallsChoose : Type 0
 CallsChoose = (f : Format) (ld n : ℕ) (t u : List Float) (from to : ℕ) → moveLine f ld n t u from to ≡ 0 → Chosen f ld n t u from to
 
 pub record HandedOver : Type 1 where
-  -- demand 3, whose lists are lists of `moveCall`
-  pub lists : ListsOfMoves
+  -- demand 3, whose lists are lists of `moveCall`; and with the move that stops among them
+  pub lists : ListsOfOneKind
+  pub listsOfBoth : ListsOfMoves
   -- dtrexc's choice, of each accepted `moveCall`
   pub choice : CallsChoose
   -- of the move that such a call is: each exchange is chosen by the zeros at that moment, and as dtrexc on any form with zeros at the same places chooses it
