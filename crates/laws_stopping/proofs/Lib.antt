@@ -1,0 +1,2 @@
+-- The proofs of what is claimed of the move that stops.
+pub mod Control

@@ -1,0 +1,2 @@
+-- What is claimed of the move that stops.
+pub mod Control
