@@ -1,2 +1,4 @@
 -- The proofs of what is claimed of the move that stops.
 pub mod Control
+pub mod Agree
+pub mod Down

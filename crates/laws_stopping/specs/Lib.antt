@@ -1,2 +1,5 @@
 -- What is claimed of the move that stops.
 pub mod Control
+pub mod Made
+pub mod Stops
+pub mod Follows
