@@ -2,3 +2,4 @@
 pub mod Control
 pub mod Agree
 pub mod Down
+pub mod Up
