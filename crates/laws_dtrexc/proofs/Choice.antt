@@ -65,7 +65,7 @@ module _ (f : Format) (ld n : ℕ) (t : List Float) (goal : ℕ) where
 
 -- ---- the start
 
-eqb-next : (a b : ℕ) → eqb (a + 1) (b + 1) ≡ eqb a b
+pub eqb-next : (a b : ℕ) → eqb (a + 1) (b + 1) ≡ eqb a b
 eqb-next a b = rw (add-one a, add-one b) (eqb·suc-suc a b)
 
 module _ (f : Format) (ld n : ℕ) (t : List Float) where
@@ -106,7 +106,7 @@ module _ (f : Format) (ld n : ℕ) (t : List Float) where
       go false q e₁ e₂ y₁ r = let k = ltb-false 0 to e₁ in omega arith
 
   -- going down, ILST is updated to our goal, which is below the start
-  goal-is : (a b : ℕ) → a < b → updated (sizeAt f ld n t a) (sizeAt f ld n t b) (b + 1) ≡ goalDown (sizeAt f ld n t a) (sizeAt f ld n t b) b + 1
+  pub goal-is : (a b : ℕ) → a < b → updated (sizeAt f ld n t a) (sizeAt f ld n t b) (b + 1) ≡ goalDown (sizeAt f ld n t a) (sizeAt f ld n t b) b + 1
   unfolding updated goalDown sizeAt
   goal-is a b l = go (twoBlock f ld n t a) (twoBlock f ld n t b)
     where
@@ -116,7 +116,7 @@ module _ (f : Format) (ld n : ℕ) (t : List Float) where
       go false true = refl
       go false false = refl
 
-  goal-below : (a to : ℕ) → to < n → a < firstRow f ld t to → ltb a (goalDown (sizeAt f ld n t a) (sizeAt f ld n t (firstRow f ld t to)) (firstRow f ld t to)) ≡ true
+  pub goal-below : (a to : ℕ) → to < n → a < firstRow f ld t to → ltb a (goalDown (sizeAt f ld n t a) (sizeAt f ld n t (firstRow f ld t to)) (firstRow f ld t to)) ≡ true
   unfolding goalDown sizeAt
   goal-below a to l k = go (twoBlock f ld n t a) (twoBlock f ld n t b) refl refl
     where

@@ -89,7 +89,7 @@ module _ (x : ℕ → ℕ → ℕ → List Float → Change) (f : Format) (ld n 
 
   -- ---- beside dtrexc
 
-  abbrev State : (Moving → Type 0) → ℕ → Control (List Float) → Bool → Moving → Type 0
+  abbrev pub State : (Moving → Type 0) → ℕ → Control (List Float) → Bool → Moving → Type 0
   State P goal c false m = (c ≡ goes (seen 0 goal m)) × P m
   State P goal c true m = (c ≡ returns (ilstHere (seen (declinedOf (m .change)) goal m))) × Off m
 

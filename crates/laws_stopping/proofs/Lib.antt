@@ -3,3 +3,4 @@ pub mod Control
 pub mod Agree
 pub mod Down
 pub mod Up
+pub mod Follows
