@@ -87,6 +87,14 @@ module _ (x : ℕ → ℕ → ℕ → List Float → Change) (f : Format) (ld n 
     pub earlier : AllSized before
     pub sized : Sized last
 
+  -- either way the list of exchanges is what was done
+  pub off-done : (m : Moving) → Off m → m .change ≡ madeBy kind (unchanged t) (m .exchanges)
+  unfolding madeBy
+  off-done m o = o .done ∙ sym (made-append kind (unchanged t) (o .before) (o .last ∷ [])) ∙ ap (madeBy kind (unchanged t)) (sym (o .exchanges))
+
+  pub off-sized : (m : Moving) → Off m → AllSized (m .exchanges)
+  off-sized m o = rw (o .exchanges) (sized-more (o .before) (o .last) (o .earlier) (o .sized))
+
   -- ---- beside dtrexc
 
   abbrev pub State : (Moving → Type 0) → ℕ → Control (List Float) → Bool → Moving → Type 0

@@ -2,10 +2,10 @@
 use Prim.Native.Nat.{ℕ, _+_, _<_}
 use native.Mathlib.Decide.{decLt, ℕ-discrete}
 use native.Mathlib.Omega.{arith}
-use mathlib.Core.Path.{_≡_, refl, sym, ap, _∙_}
+use mathlib.Core.Path.{_≡_, refl, sym}
 use mathlib.Core.Logic.{inl, inr}
 use mathlib.Core.Bool.{Bool, true, false, cond}
-use mathlib.Core.List.{List, [], _∷_}
+use mathlib.Core.List.{List, []}
 use lib.Dec.{eqb, ltb, leb}
 use lib.Ieee.{Float, Format}
 use borrow.Author.Tests.{leb-true, lt-ltb, le-ltb, eq-eqb, ne-eqb}
@@ -18,7 +18,7 @@ use Rattle.laws_dtrexc.proofs.Seen.{seen, ltb-next}
 use Rattle.laws_dtrexc.proofs.Choice.{eqb-next, goal-is, goal-below}
 use Rattle.laws_stopping.specs.Made.{madeBy}
 use Rattle.laws_stopping.specs.Follows.{routines, SameRun, StoppingIsDtrexc}
-use Rattle.laws_stopping.proofs.Agree.{made-append, kind, On, Off, State, Agrees}
+use Rattle.laws_stopping.proofs.Agree.{kind, On, Off, off-done, State, Agrees}
 use Rattle.laws_stopping.proofs.Down
 use Rattle.laws_stopping.proofs.Up
 
@@ -82,21 +82,12 @@ module _ (x : ℕ → ℕ → ℕ → List Float → Change) (f : Format) (ld n 
   -- ---- beside dtrexc
 
   same-run : (goal : ℕ) (c : Control (List Float)) (g : Going) → Agrees x f ld n t P goal c g → SameRun k t (g .moving) (returned c)
-  unfolding returned ilstHere madeBy
+  unfolding returned ilstHere
   same-run goal c g a = go (g .stopped) a
     where
       go : (b : Bool) → State x f ld n t P goal c b (g .moving) → SameRun k t (g .moving) (returned c)
       go false s = rw (s .0) (record { done = s .1 .done; calls = refl; form = refl; here = refl; declined = sym (s .1 .quiet) })
-      go true s =
-          let o = s .1 in
-          rw (s .0)
-          (record {
-            done = o .done ∙ sym (made-append k (unchanged t) (o .before) (o .last ∷ [])) ∙ ap (madeBy k (unchanged t)) (sym (o .exchanges));
-            calls = refl;
-            form = refl;
-            here = refl;
-            declined = refl;
-          })
+      go true s = rw (s .0) (record { done = off-done x f ld n t (g .moving) (s .1); calls = refl; form = refl; here = refl; declined = refl })
 
   -- dtrexc, once it knows the two first rows a and b
   runs : ℕ → ℕ → Returned (List Float)

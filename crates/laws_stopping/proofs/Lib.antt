@@ -4,3 +4,4 @@ pub mod Agree
 pub mod Down
 pub mod Up
 pub mod Follows
+pub mod Stops
