@@ -5,3 +5,5 @@ pub mod Down
 pub mod Up
 pub mod Follows
 pub mod Stops
+pub mod Whole
+pub mod Standard

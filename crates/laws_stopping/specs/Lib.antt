@@ -3,3 +3,5 @@ pub mod Control
 pub mod Made
 pub mod Stops
 pub mod Follows
+pub mod Whole
+pub mod Standard
