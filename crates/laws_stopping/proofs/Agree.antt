@@ -114,10 +114,6 @@ module _ (x : ℕ → ℕ → ℕ → List Float → Change) (f : Format) (ld n 
       go false e s = rw (e, s .0) (h (g .moving) (s .1))
       go true e s = rw (e, s .0) (refl, s .1)
 
-  pub either : (P : Moving → Type 0) (goal : ℕ) (b : Bool) (c : Control (List Float)) (g h : Going) → (b ≡ true → Agrees P goal c g) → (b ≡ false → Agrees P goal c h) → Agrees P goal c (cond b g h)
-  either P goal true c g h k l = k refl
-  either P goal false c g h k l = l refl
-
   -- ---- one exchange more
 
   abbrev onto : ℕ → ℕ → ℕ → Moving → Moving
@@ -177,9 +173,12 @@ module _ (x : ℕ → ℕ → ℕ → List Float → Change) (f : Format) (ld n 
         go false e = (ap (λ (i : ℕ). returns (ilstHere (seen i goal (onto j n1 n2 m)))) (sym counted), over e)
 
     -- and one that is not
-    pub calls : declinedOf (x j n1 n2 (m .change .form)) ≡ 0 → Agrees (At h) goal (goes (call (routines kind f ld) at n1 n2 (seen 0 goal m))) (trying kind j n1 n2 m)
+    calls : declinedOf (x j n1 n2 (m .change .form)) ≡ 0 → Agrees (At h) goal (goes (call (routines kind f ld) at n1 n2 (seen 0 goal m))) (trying kind j n1 n2 m)
     unfolding trying d
     calls q = rw (called, q) (refl, further q)
+
+  pub single : ((j : ℕ) (u : List Float) → declinedOf (x j 1 1 u) ≡ 0) → (goal at j h : ℕ) (m : Moving) → at ≡ j + 1 → At h m → Agrees (At h) goal (goes (call (routines kind f ld) at 1 1 (seen 0 goal m))) (trying kind j 1 1 m)
+  single calm goal at j h m e a = calls goal at j 1 1 h m e (record { first = one; second = one }) a (calm j (m .change .form))
 
   -- ---- a new row
 
