@@ -6,6 +6,27 @@ pub const PLACES: usize = 8;
 
 /// A call that writes the values of a form's blocks.
 type ValuesCall = unsafe extern "C" fn(usize, usize, *const f64, usize, *mut f64, usize, *mut f64, usize) -> usize;
+/// The move that stops.
+type StoppingCall = unsafe extern "C" fn(
+    usize,
+    usize,
+    *mut f64,
+    usize,
+    *mut f64,
+    usize,
+    usize,
+    usize,
+    *mut bool,
+    *mut usize,
+    *mut usize,
+    *mut usize,
+) -> usize;
+
+/// The calls that are linked of ours alone: the other archive may be of before them.
+struct Newer {
+    standardised_values: ValuesCall,
+    reorder_schur_stopping: StoppingCall,
+}
 
 /// The calls of one copy.
 pub struct Archive {
@@ -24,16 +45,15 @@ pub struct Archive {
     ) -> usize,
     evd_from_real_schur: unsafe extern "C" fn(usize, usize, *const f64, usize, *mut f64, usize) -> usize,
     block_values: ValuesCall,
-    /// Of ours alone: the other archive may be of before this call.
-    standardised_values: Option<ValuesCall>,
     make_householder_in_place:
         unsafe extern "C" fn(f64, *mut f64, usize, *mut f64, *mut f64, *mut f64, *mut f64) -> usize,
     sqrt: unsafe extern "C" fn(f64) -> f64,
     hypot: unsafe extern "C" fn(f64, f64) -> f64,
+    newer: Option<Newer>,
 }
 
 macro_rules! copy {
-    ($name:expr, $standardised_values:expr) => {{
+    ($name:expr, $newer:expr) => {{
         extern "C" {
             #[link_name = concat!("vx_reorder_schur_", $name)]
             fn reorder_schur(
@@ -88,15 +108,15 @@ macro_rules! copy {
             reorder_schur,
             evd_from_real_schur,
             block_values,
-            standardised_values: $standardised_values,
             make_householder_in_place,
             sqrt,
             hypot,
+            newer: $newer,
         }
     }};
 }
 
-macro_rules! standardised_values {
+macro_rules! newer {
     ($name:expr) => {{
         extern "C" {
             #[link_name = concat!("vx_standardised_values_", $name)]
@@ -110,8 +130,23 @@ macro_rules! standardised_values {
                 im: *mut f64,
                 im_len: usize,
             ) -> usize;
+            #[link_name = concat!("vx_reorder_schur_stopping_", $name)]
+            fn reorder_schur_stopping(
+                n: usize,
+                ld: usize,
+                t: *mut f64,
+                t_len: usize,
+                u: *mut f64,
+                u_len: usize,
+                from: usize,
+                to: usize,
+                stopped: *mut bool,
+                here: *mut usize,
+                swaps: *mut usize,
+                declined: *mut usize,
+            ) -> usize;
         }
-        Some(standardised_values)
+        Some(Newer { standardised_values, reorder_schur_stopping })
     }};
 }
 
@@ -122,12 +157,12 @@ macro_rules! not_linked {
 }
 
 macro_rules! copies {
-    ($name:literal, $standardised_values:ident: $($place:literal)*) => {
-        [$(copy!(concat!($name, "_", $place), $standardised_values!(concat!($name, "_", $place)))),*]
+    ($name:literal, $newer:ident: $($place:literal)*) => {
+        [$(copy!(concat!($name, "_", $place), $newer!(concat!($name, "_", $place)))),*]
     };
 }
 
-pub static OURS: [Archive; PLACES] = copies!("ours", standardised_values: 0 1 2 3 4 5 6 7);
+pub static OURS: [Archive; PLACES] = copies!("ours", newer: 0 1 2 3 4 5 6 7);
 /// What ours is timed beside by `bench/run beside`; else ours once more, and not called.
 pub static OTHER: [Archive; PLACES] = copies!("other", not_linked: 0 1 2 3 4 5 6 7);
 
@@ -162,6 +197,38 @@ impl Archive {
         (number, [landed, swaps, declined])
     }
 
+    /// The move that stops: the number, whether it has stopped, and the counts: here, swaps, declined.
+    /// Panics on the other archive.
+    #[inline(always)]
+    pub fn reorder_stopping(
+        &self,
+        n: usize,
+        ld: usize,
+        t: &mut [f64],
+        u: &mut [f64],
+        from: usize,
+        to: usize,
+    ) -> (usize, bool, [usize; 3]) {
+        let (mut stopped, [mut here, mut swaps, mut declined]) = (false, [0; 3]);
+        let number = unsafe {
+            (self.newer().reorder_schur_stopping)(
+                n,
+                ld,
+                t.as_mut_ptr(),
+                t.len(),
+                u.as_mut_ptr(),
+                u.len(),
+                from,
+                to,
+                &mut stopped,
+                &mut here,
+                &mut swaps,
+                &mut declined,
+            )
+        };
+        (number, stopped, [here, swaps, declined])
+    }
+
     #[inline(always)]
     pub fn vectors(&self, n: usize, ld: usize, t: &[f64], v: &mut [f64]) -> usize {
         unsafe { (self.evd_from_real_schur)(n, ld, t.as_ptr(), t.len(), v.as_mut_ptr(), v.len()) }
@@ -175,8 +242,13 @@ impl Archive {
     /// Panics on the other archive.
     #[inline(always)]
     pub fn standardised(&self, n: usize, ld: usize, t: &[f64], re: &mut [f64], im: &mut [f64]) -> usize {
-        let call = self.standardised_values.expect("the call is linked of ours alone");
+        let call = self.newer().standardised_values;
         unsafe { call(n, ld, t.as_ptr(), t.len(), re.as_mut_ptr(), re.len(), im.as_mut_ptr(), im.len()) }
+    }
+
+    #[inline(always)]
+    fn newer(&self) -> &Newer {
+        self.newer.as_ref().expect("these calls are linked of ours alone")
     }
 
     /// The results beside the head: tau, head_with_beta_inv, norm.

@@ -43,13 +43,17 @@ pub fn progress(text: &str) {
 
 type Moves = fn(&Form) -> Vec<(usize, usize)>;
 /// A row's name, its moves, and its stride where that is not n.
-const KINDS_OF_MOVE: [(&str, Moves, Option<usize>); 5] = [
+type KindOfMove = (&'static str, Moves, Option<usize>);
+const KINDS_OF_MOVE: [KindOfMove; 5] = [
     ("one adjacent move", Form::adjacent, None),
     ("move last to first", Form::last_to_first, None),
     ("reversal by moves", Form::reversal, None),
     ("one adjacent move, stride 128", Form::adjacent, Some(STRIDE)),
     ("move last to first, stride 128", Form::last_to_first, Some(STRIDE)),
 ];
+/// The same moves by the move that stops.
+const KINDS_OF_STOPPING: [KindOfMove; 2] =
+    [("stopping, last to first", Form::last_to_first, None), ("stopping, reversal", Form::reversal, None)];
 
 /// A list of moves on a form.
 pub struct MoveRow {
@@ -64,7 +68,16 @@ pub struct MoveRow {
 impl MoveRow {
     /// The rows that are wanted.
     pub fn all(plan: &Plan) -> impl Iterator<Item = MoveRow> + '_ {
-        let kinds = KINDS_OF_MOVE.into_iter().flat_map(|row| Kind::ALL.map(|kind| (row, kind)));
+        MoveRow::wanted(plan, &KINDS_OF_MOVE)
+    }
+
+    /// The rows of the move that stops that are wanted.
+    pub fn stopping(plan: &Plan) -> impl Iterator<Item = MoveRow> + '_ {
+        MoveRow::wanted(plan, &KINDS_OF_STOPPING)
+    }
+
+    fn wanted<'a>(plan: &'a Plan, rows: &'static [KindOfMove]) -> impl Iterator<Item = MoveRow> + 'a {
+        let kinds = rows.iter().flat_map(|row| Kind::ALL.map(|kind| (*row, kind)));
         let factors = kinds.flat_map(|row| [false, true].map(|with_factor| (row, with_factor)));
         let all = factors.flat_map(|row| SIZES.map(|n| (row, n)));
         all.filter_map(move |((((what, moves, stride), kind), with_factor), n)| {
@@ -86,6 +99,12 @@ impl MoveRow {
 
     pub fn factor(&self) -> &'static str {
         if self.with_factor { "yes" } else { "no" }
+    }
+
+    /// What is called on what: rows may differ in their names alone.
+    pub fn call(&self) -> String {
+        let Form { n, ld, .. } = &self.form;
+        format!("{} {} n = {n} {ld} {:?}", self.kind.name(), self.factor(), self.moves)
     }
 
     pub fn times(&self, plan: &Plan, sides: &[Side]) -> Times {

@@ -11,6 +11,8 @@ use crate::taken::{eigen, evd, householder, leaves};
 pub enum Side {
     /// The copies of an archive, and which one is called.
     Archive(&'static [Archive; PLACES], usize),
+    /// The same, with the move that stops for its move.
+    Stopping(&'static [Archive; PLACES], usize),
     Rust,
     Lapack(Lapack),
 }
@@ -20,6 +22,7 @@ impl Side {
     pub fn at(self, place: usize) -> Side {
         match self {
             Side::Archive(copies, _) => Side::Archive(copies, place),
+            Side::Stopping(copies, _) => Side::Stopping(copies, place),
             _ => self,
         }
     }
@@ -29,6 +32,10 @@ impl Side {
     pub fn reorder(&self, n: usize, ld: usize, t: &mut [f64], u: &mut [f64], from: usize, to: usize) -> usize {
         match self {
             Side::Archive(copies, place) => copies[*place].reorder(n, ld, t, u, from, to).0,
+            Side::Stopping(copies, place) => {
+                let (number, stopped, _) = copies[*place].reorder_stopping(n, ld, t, u, from, to);
+                number + usize::from(stopped)
+            }
             Side::Rust => rust_reorder(n, ld, t, u, from, to),
             Side::Lapack(lapack) => lapack.reorder(n, ld, t, u, from, to) as usize,
         }
@@ -37,7 +44,7 @@ impl Side {
     #[inline(always)]
     pub fn vectors(&self, n: usize, ld: usize, t: &[f64], v: &mut [f64]) -> usize {
         match self {
-            Side::Archive(copies, place) => copies[*place].vectors(n, ld, t, v),
+            Side::Archive(copies, place) | Side::Stopping(copies, place) => copies[*place].vectors(n, ld, t, v),
             Side::Rust => rust_vectors(n, ld, t, v),
             Side::Lapack(lapack) => lapack.vectors(n, ld, t, v) as usize,
         }
@@ -47,7 +54,9 @@ impl Side {
     #[inline(always)]
     pub fn values(&self, n: usize, ld: usize, t: &[f64], out: &mut Values) -> usize {
         match self {
-            Side::Archive(copies, place) => copies[*place].values(n, ld, t, &mut out.re, &mut out.im),
+            Side::Archive(copies, place) | Side::Stopping(copies, place) => {
+                copies[*place].values(n, ld, t, &mut out.re, &mut out.im)
+            }
             Side::Rust => rust_values(n, ld, t, &mut out.all),
             Side::Lapack(_) => unreachable!("LAPACK has no routine that only reads the values off a form"),
         }
@@ -58,7 +67,9 @@ impl Side {
     #[inline(always)]
     pub fn standardised(&self, n: usize, ld: usize, t: &[f64], out: &mut Values) -> usize {
         match self {
-            Side::Archive(copies, place) => return copies[*place].standardised(n, ld, t, &mut out.re, &mut out.im),
+            Side::Archive(copies, place) | Side::Stopping(copies, place) => {
+                return copies[*place].standardised(n, ld, t, &mut out.re, &mut out.im);
+            }
             Side::Rust => rust_standardised(n, ld, t, &mut out.all),
             Side::Lapack(lapack) => lapack.standardised(n, ld, t, &mut out.re, &mut out.im),
         }
@@ -71,7 +82,9 @@ impl Side {
     pub fn reflect(&self, column: &mut [f64], further: &mut [f64; 3]) -> usize {
         let (head, tail) = column.split_first_mut().unwrap();
         match self {
-            Side::Archive(copies, place) => return copies[*place].reflect(head, tail, further),
+            Side::Archive(copies, place) | Side::Stopping(copies, place) => {
+                return copies[*place].reflect(head, tail, further);
+            }
             Side::Rust => rust_reflect(head, tail, further),
             Side::Lapack(lapack) => lapack.reflect(head, tail, &mut further[0]),
         }

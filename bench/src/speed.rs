@@ -1,4 +1,5 @@
-//! Times moves, vectors, values, standardised values and reflections, and prints them as ratios.
+//! Times moves, the move that stops, vectors, values, standardised values and reflections, and prints them
+//! as ratios.
 
 use crate::archive::OURS;
 use crate::arithmetic::arithmetic;
@@ -19,6 +20,7 @@ pub fn run(plan: &Plan, sides: &Sides) {
     let report = &mut Report::new();
     let tables = [
         ("Moves", moves(plan, sides, report)),
+        ("The move that stops, beside our own that goes on and dtrexc, which stops too", stopping(plan, sides, report)),
         ("Vectors", vectors(plan, sides, report)),
         ("Values (LAPACK has no routine that only reads the values off a form)", values(plan, sides, report)),
         ("Values of a copy standardised first; LAPACK: dlanv2 for each 2-block", standardised(plan, sides, report)),
@@ -45,8 +47,7 @@ fn moves(plan: &Plan, sides: &Sides, report: &mut Report) -> Table {
         let swaps = check_moves(sides, &row);
         let times = row.times(plan, &sides.all);
         let ratios: Vec<Spread> = (1..4).map(|k| times.ratio(0, k, plan.least)).collect();
-        let same = format!("{} {} n = {n} {} {:?}", row.kind.name(), row.factor(), row.form.ld, row.moves);
-        report.same_call(same, &ratios);
+        report.same_call(format!("move {}", row.call()), &ratios);
         let said = report.add(&row.name, n, target(&row.form).filter(|_| swaps > 1), &ratios, &times);
         table.add(vec![
             row.what.to_string(),
@@ -66,11 +67,21 @@ fn moves(plan: &Plan, sides: &Sides, report: &mut Report) -> Table {
 
 /// Every side carries the moves out, ours as the Rust in every bit, none declines. Hands back the swaps.
 fn check_moves(sides: &Sides, row: &MoveRow) -> usize {
+    let Form { n, ld, .. } = row.form;
+    check_ours(sides, row, |t, u, from, to| OURS[0].reorder(n, ld, t, u, from, to))
+}
+
+/// The same of one of our moves.
+fn check_ours(
+    sides: &Sides,
+    row: &MoveRow,
+    ours: impl Fn(&mut [f64], &mut [f64], usize, usize) -> (usize, [usize; 3]),
+) -> usize {
     let MoveRow { form, with_factor, moves, .. } = row;
     let (n, ld) = (form.n, form.ld);
     let (mut t, mut u, mut swaps) = (form.t.clone(), form.factor(*with_factor), 0);
     for &(from, to) in moves {
-        let (number, out) = OURS[0].reorder(n, ld, &mut t, &mut u, from, to);
+        let (number, out) = ours(&mut t, &mut u, from, to);
         assert!(number == 0 && out[0] == to && out[2] == 0, "our move {from} to {to}: {number} {out:?}");
         swaps += out[1];
     }
@@ -84,6 +95,37 @@ fn check_moves(sides: &Sides, row: &MoveRow) -> usize {
             _ => (0..n).for_each(|i| assert!((t[i + ld * i] - t2[i + ld * i]).abs() < 1e-6, "{name} differs, row {i}")),
         }
     }
+    swaps
+}
+
+fn stopping(plan: &Plan, sides: &Sides, report: &mut Report) -> Table {
+    let heads =
+        ["", "blocks", "factor", "n", "swaps", "ours, ns", "ours/reorder_schur", "ours/LAPACK", "ours/OpenBLAS"];
+    let mut table = Table::new(plan.markdown, &heads);
+    let [ours, _, lapack, openblas] = sides.all;
+    for row in MoveRow::stopping(plan) {
+        let swaps = check_stopping(sides, &row);
+        let times = row.times(plan, &[Side::Stopping(&OURS, 0), ours, lapack, openblas]);
+        let ratios: Vec<Spread> = (1..4).map(|k| times.ratio(0, k, plan.least)).collect();
+        report.same_call(format!("stopping {}", row.call()), &ratios);
+        report.note(&ratios, &times);
+        let cells = [row.what, row.kind.name(), row.factor()].map(str::to_string);
+        let numbers = [row.form.n.to_string(), swaps.to_string(), middle_time(&times, 0)];
+        table.add(cells.into_iter().chain(numbers).chain(ratios.into_iter().map(shown)).collect());
+    }
+    table
+}
+
+/// The same of the move that stops, of which none does. No test fails on these forms, and no block is
+/// parted: so it is as the Rust's move in every bit, and has the row and the swaps of our own that goes on.
+fn check_stopping(sides: &Sides, row: &MoveRow) -> usize {
+    let Form { n, ld, .. } = row.form;
+    let swaps = check_ours(sides, row, |t, u, from, to| {
+        let (number, stopped, out) = OURS[0].reorder_stopping(n, ld, t, u, from, to);
+        assert!(!stopped, "our move {from} to {to} stops: {number} {out:?}");
+        (number, out)
+    });
+    assert!(swaps == check_moves(sides, row), "our two moves differ in their swaps");
     swaps
 }
 
