@@ -1,7 +1,8 @@
 // The window of three rows by value, column after column: copied out, and tried.
 ghost use mathlib.Core.Path.{_≡_};
 ghost use Prim.Native.Nat.{_<_};
-ghost use lib.Ieee.{binary64};
+ghost use lib.Ieee.{binary64, sub};
+ghost use Rattle.model.specs.Arith as Arith;
 ghost use Rattle.model.specs.Columns as Columns;
 ghost use Rattle.model.specs.Stopping as Stopping;
 ghost use Rattle.swaps.specs.View.{reflection3};
@@ -102,16 +103,24 @@ pub fn threshold_3(w: [[f64; 3]; 3]) -> f64
     fmax(10.0 * EPS * dnorm_of_3(w), MIN_POSITIVE / EPS)
 }
 
-// The largest of the test's numbers for 1 and 2, with w the window and x the same tried.
+// How much the single row's diagonal number changes, which goes from the first place of the window w to
+// the last of the same tried, x.
+fn change_of(w: [[f64; 3]; 3], x: [[f64; 3]; 3]) -> f64
+    ensures { λ r. ⌜ r ≡ Arith.abs (sub binary64 (window3 x .c2 .x2) (window3 w .c0 .x0)) ⌝ }
+{
+    abs(x[2][2] - w[0][0])
+}
+
+// The largest of the test's numbers for 1 and 2.
 pub fn left_12(w: [[f64; 3]; 3], x: [[f64; 3]; 3]) -> f64
     ensures { λ r. ⌜ r ≡ Stopping.left12 binary64 (window3 w) (window3 x) ⌝ }
 {
-    fmax(fmax(abs(x[0][2]), abs(x[1][2])), abs(x[2][2] - w[0][0]))
+    fmax(fmax(abs(x[0][2]), abs(x[1][2])), change_of(w, x))
 }
 
 // The same for 2 and 1, whose window has rows and columns in reversed order.
 pub fn left_21(w: [[f64; 3]; 3], x: [[f64; 3]; 3]) -> f64
     ensures { λ r. ⌜ r ≡ Stopping.left21 binary64 (window3 w) (window3 x) ⌝ }
 {
-    fmax(fmax(abs(x[2][1]), abs(x[2][0])), abs(x[2][2] - w[0][0]))
+    fmax(fmax(abs(x[2][1]), abs(x[2][0])), change_of(w, x))
 }
