@@ -50,12 +50,12 @@ onward-twice G a b = go (G .stopped) (G .moving)
     go false m = refl
 
 -- ---- one exchange more, of which d declined
-pub tries : (ld n j n1 n2 d : ℕ) {u₀ t u t₁ u₁ : List Float} {g : Going} {M : Move.Moving} → Stands ld n u₀ t u (g .here) (g .nbf) (g .swaps) (g .declined) M
+pub tries : (ld n j n1 n2 d : ℕ) (g : Going) {u₀ t u t₁ u₁ : List Float} {M : Move.Moving} → Stands ld n u₀ t u (g .here) (g .nbf) (g .swaps) (g .declined) M
     → Done ld n u t₁ u₁ (tryExchange binary64 ld n j n1 n2 t) → swapsOf (tryExchange binary64 ld n j n1 n2 t) ≡ 1 → declinedOf (tryExchange binary64 ld n j n1 n2 t) ≡ d → length u₁ ≡ length u
     → (declined₁ : ℕ) (stopped₁ : Bool) → declined₁ ≡ g .declined + d → stopped₁ ≡ not (eqb d 0)
     → Stood ld n u₀ t₁ u₁ (record { here = g .here; nbf = g .nbf; swaps = g .swaps + 1; declined = declined₁; stopped = stopped₁ }) (trying (stopping binary64 ld n) j n1 n2 M)
 unfolding trying
-tries ld n j n1 n2 d a e s k l declined₁ stopped₁ p q =
+tries ld n j n1 n2 d g a e s k l declined₁ stopped₁ p q =
     let b = step-then (tryExchange binary64 ld n j n1 n2) (a .step) (a .kept) (record { done = e; swaps = sym s; declined = sym k }) in
     record {
       stopped = rw (q, ← a .step .done .form, k);

@@ -25,7 +25,7 @@ returns c =
     let c1 = c .before .before .before .before in
     let c2 = c1 .before .before .before in
     let c3 = c2 .before .before .before .before in
-    let x = c1 .apart-down .ensures in let k = x .1 in let v = c3 .pre .2 in let e = rows-three (c2 .if1 .taken) in (λ u₀ G s. stood-as (apart-down-is _ _ _ _ G _ _ _ (s .stands .here) (s .stands .nbf) (s .stands .step .done .form) (c2 .if1 .taken)) (x .0 u₀ G s), (omega arith, omega arith, record { one = omega arith; three = omega arith; same = ap rows (k .2); few = omega arith; fewer = omega arith }))
+    let x = c1 .apart-down .ensures in let k = x .1 in let v = c3 .pre .2 in let e = rows-three (c2 .if1 .taken) in (λ u₀ G s. stood-as (apart-down-is _ _ _ _ G _ _ _ (s .stands .here) (s .stands .nbf) (s .stands .step .done .form) (c2 .if1 .taken)) (x .0 u₀ G s), (λ i. let l = k .0 i in (omega arith, omega arith), record { one = omega arith; three = omega arith; same = ap rows (k .1); few = omega arith; fewer = omega arith }))
 
 whole-down-requires : tie.Need-whole-down-requires
 whole-down-requires c κs =
@@ -43,7 +43,7 @@ returns-2 : tie.Need-returns-2
 returns-2 c =
     let c1 = c .before .before .before .before in
     let c2 = c1 .before .before .before in
-    let x = c1 .whole-down .ensures in let e = rows-else _ (c2 .if1 .left) in (λ u₀ G s. stood-as (block-down-is _ _ _ _ G _ _ _ (s .stands .here) (s .stands .nbf) (s .stands .step .done .form) (c2 .if1 .left)) (x .0 u₀ G s), search needs)
+    let x = c1 .whole-down .ensures in let k = x .1 in let g = k .1 in let e = rows-else _ (c2 .if1 .left) in (λ u₀ G s. stood-as (block-down-is _ _ _ _ G _ _ _ (s .stands .here) (s .stands .nbf) (s .stands .step .done .form) (c2 .if1 .left)) (x .0 u₀ G s), (λ i. let l = k .0 i in (omega arith, omega arith), record { one = g .one; three = g .three; same = g .same; few = let f = g .few in omega arith; fewer = let f = g .fewer in omega arith }))
 
 pub step-down-spec : {M : Type 1} → statement M
 step-down-spec =

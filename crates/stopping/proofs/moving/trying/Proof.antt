@@ -1,53 +1,58 @@
+-- `stopping::moving::trying` meets its contract. Assumes nothing.
+use mathlib.Core.Path.{refl, ap, _∙_}
+use native.Mathlib.Omega.{arith}
+use mathlib.Core.Bool.{Bool, cond}
 use borrow.Author.Needs.{needs}
+use Rattle.stopping.proofs.Ways.{stays, takes, tries}
 use Rattle.stopping.proofs.moving.trying.Statement.{statement}
 use Rattle.stopping.proofs.moving.trying.Tie as tie
-use Rattle.stopping.proofs.moving.trying.Reads as reads
-use Rattle.stopping.proofs.moving.trying.Lts as lts
-use Rattle.stopping.proofs.tried.try_exchange.Reads as try-exchange-reads
 
--- src/moving.rt:44:9
 returns : tie.Need-returns
-returns c = ?
+returns c = (λ u₀ G s. stays _ (c .if1 .taken) s, (refl, refl, omega arith, omega arith))
 
--- src/moving.rt:46:9
 try-exchange-requires : tie.Need-try-exchange-requires
 try-exchange-requires c κs = search needs
 
--- src/moving.rt:51:20
 add-t15 : tie.Need-add-t15
 add-t15 c = search needs
 
--- src/moving.rt:52:23
 add-t16 : tie.Need-add-t16
 add-t16 c = search needs
 
--- src/moving.rt:48:9
 same-length : tie.Need-same-length
 same-length c = search needs
 
--- src/moving.rt:48:9
 same-length-2 : tie.Need-same-length-2
 same-length-2 c = search needs
 
--- src/moving.rt:48:9
 returns-2 : tie.Need-returns-2
-returns-2 c = ?
+returns-2 c =
+    let c1 = c .before .before in
+    let c2 = c1 .before .before .before .before .before in
+    let c3 = c2 .before .before .before in
+    let x = c2 .try-exchange in
+    let e = x .ensures in
+    (λ u₀ G s. takes _ (c3 .if1 .left) s (tries _ _ _ _ _ 1 _ (s .stands) (e .0) (e .2) (e .3 ∙ ap (λ (b : Bool). cond b 1 0) (c1 .if2 .taken)) (x .kept .1 .0) _ _ refl refl),
+     (refl, refl, omega arith, omega arith))
 
--- src/moving.rt:59:16
 add-t17 : tie.Need-add-t17
 add-t17 c = search needs
 
--- src/moving.rt:29:1
 same-length-3 : tie.Need-same-length-3
 same-length-3 c = search needs
 
--- src/moving.rt:29:1
 same-length-4 : tie.Need-same-length-4
 same-length-4 c = search needs
 
--- src/moving.rt:29:1
 returns-3 : tie.Need-returns-3
-returns-3 c = ?
+returns-3 c =
+    let c1 = c .before in
+    let c2 = c1 .before .before .before .before .before in
+    let c3 = c2 .before .before .before in
+    let x = c2 .try-exchange in
+    let e = x .ensures in
+    (λ u₀ G s. takes _ (c3 .if1 .left) s (tries _ _ _ _ _ 0 _ (s .stands) (e .0) (e .2) (e .3 ∙ ap (λ (b : Bool). cond b 1 0) (c1 .if2 .left)) (x .kept .1 .0) _ _ (omega arith) refl),
+     (refl, refl, omega arith, omega arith))
 
 pub trying-spec : {M : Type 1} → statement M
 trying-spec =
