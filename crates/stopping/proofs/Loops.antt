@@ -1,10 +1,9 @@
 -- The loops of a move that stops: with i steps left, going on from where it stands gives the whole. Assumes nothing.
 use mathlib.Core.Path.{_≡_, refl, sym, ap, _∙_}
-use Prim.Native.Nat.{ℕ, zero, suc, _+_, _≤_, _<_}
+use Prim.Native.Nat.{ℕ, zero, suc, _≤_, _<_}
 use native.Mathlib.Omega.{arith}
-use mathlib.Core.Bool.{Bool, true, false, cond}
+use mathlib.Core.Bool.{Bool, true, false}
 use mathlib.Core.List.{List}
-use lib.Dec.{ltb}
 use lib.Ieee.{Float, Format}
 use borrow.Author.Tests.{lt-ltb, le-ltb}
 use Rattle.model.specs.Move as Move
@@ -33,7 +32,6 @@ begins {G = G} walk i l e s =
     record { i = i; on = G .moving; near = l; stood = stood-as (going G q) s; gives = goes-on G (walk i) q }
 
 module _ (walk : ℕ → Move.Moving → Stopping.Going) (step : Move.Moving → Stopping.Going) {ld n far : ℕ} {u₀ t u : List Float} {g : Going} {whole : Stopping.Going} (w : Left walk far ld n u₀ t u g whole) where
-
   -- a step that goes on
   pub more : {t₁ u₁ : List Float} {r : Going} → 0 < far → (far₁ : ℕ) → far₁ < far → ((i : ℕ) (M : Move.Moving) → g .here ≡ M .here → walk (suc i) M ≡ onward (step M) (walk i))
       → Takes ld n t u g t₁ u₁ r step → r .stopped ≡ false → Left walk far₁ ld n u₀ t₁ u₁ r whole

@@ -1,9 +1,8 @@
 // The move of a block that stops at the first exchange whose test fails (reorder_schur_stopping).
 ghost use mathlib.Core.Path.{_≡_};
 ghost use mathlib.Core.Bool.{false};
-ghost use Prim.Native.Nat.{ℕ, _+_, _*_, _≤_, _<_};
-ghost use mathlib.Core.List.{List};
-ghost use lib.Ieee.{Float, binary64};
+ghost use Prim.Native.Nat.{_+_, _*_, _≤_, _<_};
+ghost use lib.Ieee.{binary64};
 ghost use Rattle.model.specs.Stopping as Stopping;
 ghost use Rattle.form.specs.Run.{Sized, Beside};
 ghost use Rattle.schur.specs.Stands.{Way, rows};
@@ -37,14 +36,14 @@ fn walk_up(t: &mut [f64], u: &mut [f64], ld: usize, n: usize, goal: usize, m: Go
     requires { ⌜ Sized ld n (now t) × Beside ld n (now u) × Way (m .nbf) (m .swaps) (m .declined) × (m .here + rows (m .nbf) ≤ n) × (m .swaps + 3 * m .here ≤ 3 * n) × (m .declined + 3 * m .here ≤ 3 * n) × (m .stopped ≡ false) ⌝ }
     ensures { λ r. ⌜ Takes ld n (now (t .entry)) (now (u .entry)) m (now (t .exit)) (now (u .exit)) r (Stopping.walkUp (Stopping.stopping binary64 ld n) n binary64 ld n goal) ⌝ }
 {
-    let mut on = m;
-    while goal < on.here {
-        on = step_up(&mut *t, &mut *u, ld, n, on);
-        if on.stopped {
-            return on;
+    let mut at = m;
+    while goal < at.here {
+        at = step_up(&mut *t, &mut *u, ld, n, at);
+        if at.stopped {
+            return at;
         }
     }
-    on
+    at
 }
 
 // The block in row `from` to row `to`, both first rows of blocks.

@@ -1,7 +1,7 @@
 -- `stopping::moving::apart_up` meets its contract. Assumes nothing.
 use Rattle.form.proofs.Runs.{resized, still}
 use Rattle.stopping.proofs.Ways.{stood-as, one-up-is, past-up-is}
-use mathlib.Core.Path.{refl, sym, _∙_}
+use mathlib.Core.Path.{refl}
 use native.Mathlib.Omega.{arith}
 use borrow.Author.Needs.{needs}
 use Rattle.stopping.proofs.moving.apart_up.Statement.{statement}

@@ -25,25 +25,28 @@ unfolding rows
 returns-2 c =
     let c1 = c .before in
     let c2 = c1 .before in
-    let q = c2 .if2 .taken in
-    (λ u u₀ G s. takes _ (c2 .before .if1 .left) s (record { stopped = refl; stands = lands _ _ (s .stands) (rw (eq-eqb _ _ q, ← c1 .zero-below .ensures, c .if3 .taken)) }),
-     (λ e. refl, record { one = lit≤ tt; three = lit≤ tt; same = rw q; few = omega arith; fewer = omega arith }))
+    let q = c2 .if2 .taken in (
+      λ u u₀ G s. takes _ (c2 .before .if1 .left) s (record { stopped = refl; stands = lands _ _ (s .stands) (rw (eq-eqb _ _ q, ← c1 .zero-below .ensures, c .if3 .taken)) }),
+      (λ e. refl, record { one = lit≤ tt; three = lit≤ tt; same = rw q; few = omega arith; fewer = omega arith }),
+    )
 
 returns-3 : tie.Need-returns-3
 returns-3 c =
     let c1 = c .before in
     let c2 = c1 .before in
     let q = c2 .if2 .taken in
-    let p = c2 .before .before .before .pre in
-    (λ u u₀ G s. takes _ (c2 .before .if1 .left) s (record { stopped = refl; stands = lands _ _ (s .stands) (rw (eq-eqb _ _ q, ← c1 .zero-below .ensures, c .if3 .left)) }),
-     (λ e. refl, record { one = p .2; three = omega arith; same = refl; few = omega arith; fewer = omega arith }))
+    let p = c2 .before .before .before .pre in (
+      λ u u₀ G s. takes _ (c2 .before .if1 .left) s (record { stopped = refl; stands = lands _ _ (s .stands) (rw (eq-eqb _ _ q, ← c1 .zero-below .ensures, c .if3 .left)) }),
+      (λ e. refl, record { one = p .2; three = omega arith; same = refl; few = omega arith; fewer = omega arith }),
+    )
 
 returns-4 : tie.Need-returns-4
 returns-4 c =
     let q = c .if2 .left in
-    let p = c .before .before .before .pre in
-    (λ u u₀ G s. takes _ (c .before .if1 .left) s (record { stopped = refl; stands = lands _ _ (s .stands) (rw (ne-eqb _ _ q)) }),
-     (λ e. refl, record { one = p .2; three = omega arith; same = refl; few = omega arith; fewer = omega arith }))
+    let p = c .before .before .before .pre in (
+      λ u u₀ G s. takes _ (c .before .if1 .left) s (record { stopped = refl; stands = lands _ _ (s .stands) (rw (ne-eqb _ _ q)) }),
+      (λ e. refl, record { one = p .2; three = omega arith; same = refl; few = omega arith; fewer = omega arith }),
+    )
 
 pub landed-whole-spec : {M : Type 1} → statement M
 landed-whole-spec = tie.close (tie.spec returns zero-below-requires returns-2 returns-3 returns-4)

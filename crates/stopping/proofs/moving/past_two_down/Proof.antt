@@ -2,7 +2,6 @@
 use Rattle.form.proofs.Runs.{resized, still}
 use Rattle.stopping.proofs.Ways.{stood-as, split-down, two-down}
 use mathlib.Core.Path.{refl, sym, _∙_}
-use native.Mathlib.Omega.{arith}
 use borrow.Author.Needs.{needs}
 use Rattle.stopping.proofs.moving.past_two_down.Statement.{statement}
 use Rattle.stopping.proofs.moving.past_two_down.Tie as tie

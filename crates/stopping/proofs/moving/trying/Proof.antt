@@ -32,8 +32,10 @@ returns-2 c =
     let c3 = c2 .before .before .before in
     let x = c2 .try-exchange in
     let e = x .ensures in
-    (λ u₀ G s. takes _ (c3 .if1 .left) s (tries _ _ _ _ _ 1 _ (s .stands) (e .0) (e .2) (e .3 ∙ ap (λ (b : Bool). cond b 1 0) (c1 .if2 .taken)) (x .kept .1 .0) _ _ refl refl),
-     (refl, refl, omega arith, omega arith))
+    let g = c3 .before .before .before .args .m in (
+      λ u₀ G s. takes _ (c3 .if1 .left) s (tries _ _ _ _ _ 1 g (s .stands) (e .0) (e .2) (e .3 ∙ ap (λ (b : Bool). cond b 1 0) (c1 .if2 .taken)) (x .kept .1 .0) _ _ refl refl),
+      (refl, refl, omega arith, omega arith),
+    )
 
 add-t17 : tie.Need-add-t17
 add-t17 c = search needs
@@ -51,8 +53,10 @@ returns-3 c =
     let c3 = c2 .before .before .before in
     let x = c2 .try-exchange in
     let e = x .ensures in
-    (λ u₀ G s. takes _ (c3 .if1 .left) s (tries _ _ _ _ _ 0 _ (s .stands) (e .0) (e .2) (e .3 ∙ ap (λ (b : Bool). cond b 1 0) (c1 .if2 .left)) (x .kept .1 .0) _ _ (omega arith) refl),
-     (refl, refl, omega arith, omega arith))
+    let g = c3 .before .before .before .args .m in (
+      λ u₀ G s. takes _ (c3 .if1 .left) s (tries _ _ _ _ _ 0 g (s .stands) (e .0) (e .2) (e .3 ∙ ap (λ (b : Bool). cond b 1 0) (c1 .if2 .left)) (x .kept .1 .0) _ _ (omega arith) refl),
+      (refl, refl, omega arith, omega arith),
+    )
 
 pub trying-spec : {M : Type 1} → statement M
 trying-spec =

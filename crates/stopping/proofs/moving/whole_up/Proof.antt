@@ -1,7 +1,7 @@
 -- `stopping::moving::whole_up` meets its contract. Assumes nothing.
 use Rattle.schur.specs.Stands.{rows}
 use Rattle.stopping.proofs.Ways.{stood-as, whole-up-is}
-use mathlib.Core.Path.{refl, sym, ap, _∙_}
+use mathlib.Core.Path.{ap, _∙_}
 use native.Mathlib.Omega.{arith}
 use borrow.Author.Needs.{needs}
 use Rattle.stopping.proofs.moving.whole_up.Statement.{statement}

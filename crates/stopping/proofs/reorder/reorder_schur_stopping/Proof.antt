@@ -3,10 +3,8 @@ use native.Mathlib.Nat.{lt-of-le-of-lt}
 use Rattle.model.specs.Stopping.{stoppingCall, walk}
 use Rattle.stopping.proofs.Ways.{ended}
 use Rattle.form.proofs.Accepted.{move-accepted}
-use borrow.Author.Tests.{eq-eqb, ne-eqb, lt-ltb, le-ltb}
-use mathlib.Core.Path.{_≡_, refl, sym, _∙_}
-use native.Mathlib.Omega.{arith}
-use Prim.Native.Nat.{_≤_, _+_}
+use borrow.Author.Tests.{ne-eqb}
+use mathlib.Core.Path.{sym, _∙_}
 use borrow.Author.Needs.{needs}
 use Rattle.stopping.proofs.reorder.reorder_schur_stopping.Statement.{statement}
 use Rattle.stopping.proofs.reorder.reorder_schur_stopping.Tie as tie

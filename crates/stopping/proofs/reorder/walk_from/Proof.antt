@@ -1,12 +1,9 @@
 -- `stopping::reorder::walk_from` meets its contract. Assumes nothing.
 use lib.Dec.{lit≤}
-use Rattle.schur.specs.Stands.{rows}
 use Rattle.stopping.proofs.Ways.{stood-as, stays-is, goes-down, goes-up}
 use Rattle.schur.proofs.Ways.{starts, rows-else}
-use borrow.Author.Tests.{eq-eqb, ne-eqb, lt-ltb, le-ltb}
-use mathlib.Core.Path.{_≡_, refl, sym, _∙_}
+use mathlib.Core.Path.{refl}
 use native.Mathlib.Omega.{arith}
-use Prim.Native.Nat.{_≤_, _+_}
 use borrow.Author.Needs.{needs}
 use Rattle.stopping.proofs.reorder.walk_from.Statement.{statement}
 use Rattle.stopping.proofs.reorder.walk_from.Tie as tie
