@@ -1,2 +1,3 @@
 pub mod View
 pub mod Goes
+pub mod Handed
