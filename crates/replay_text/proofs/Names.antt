@@ -65,11 +65,11 @@ call-from-bound (suc k) call name = by (call-from-bound k (call + 1) name) (same
     by rest true e = rw e (omega arith)
     by rest false e = rw e (omega arith)
 
-call-bound : (name : List ℕ) → callOf name < 29
+call-bound : (name : List ℕ) → callOf name < 31
 unfolding callOf
-call-bound name = omega (arith, call-from-bound 28 0 name)
+call-bound name = omega (arith, call-from-bound 30 0 name)
 
-pub named-bound : (name : List ℕ) → callNamed name < 29
+pub named-bound : (name : List ℕ) → callNamed name < 31
 unfolding callNamed
 named-bound name = call-bound (padded name)
 

@@ -39,11 +39,13 @@ names =
     ∷ ascii "column_ld                   "
     ∷ ascii "standardised_values         "
     ∷ ascii "standardised_values_ld      "
+    ∷ ascii "reorder_schur_stopping      "
+    ∷ ascii "reorder_schur_stopping_ld   "
     ∷ []
 
 -- how many calls there are; also the number of what is no call
 abbrev pub calls : ℕ
-calls = 28
+calls = 30
 
 -- spaces for what is no call
 abbrev pub nameOf : ℕ → List ℕ

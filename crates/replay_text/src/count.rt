@@ -25,7 +25,7 @@ pub fn refuse(runs: &mut [u64; ROWS])
 
 // Counts a line of a call by its outcome.
 pub fn tally(call: usize, outcome: Outcome, runs: &mut [u64; ROWS], differ: &mut [u64; ROWS])
-    requires { ⌜ call < 29 ⌝ }
+    requires { ⌜ call < 31 ⌝ }
     ensures { λ _. ⌜ (record { runs = now (runs .exit); differ = now (differ .exit) }) ≡ Counts.tallied call outcome (record { runs = now (runs .entry); differ = now (differ .entry) }) ⌝ }
 {
     match outcome {

@@ -3,10 +3,10 @@ ghost use mathlib.Core.Path.{_≡_};
 ghost use Rattle.replay_text.specs.Names as Names;
 
 // How many calls there are. It is also the number of what is no call.
-pub const CALLS: usize = 28;
+pub const CALLS: usize = 30;
 
 // The rows of the counts: one of each call, and one of what is no call.
-pub const ROWS: usize = 29;
+pub const ROWS: usize = 31;
 
 // The name of a call, with spaces after it; what is no call has none.
 pub fn name_of(call: usize) -> [u8; 28]
@@ -41,6 +41,8 @@ pub fn name_of(call: usize) -> [u8; 28]
         25 => *b"column_ld                   ",
         26 => *b"standardised_values         ",
         27 => *b"standardised_values_ld      ",
+        28 => *b"reorder_schur_stopping      ",
+        29 => *b"reorder_schur_stopping_ld   ",
         _ => [b' '; 28],
     }
 }

@@ -50,7 +50,7 @@ loop-again c =
 returns-2 : tie.Need-returns-2 Inv-loop μ-loop
 returns-2 c =
     let l = c .before in
-    let e : 28 ≡ l .loop .call = omega arith in
+    let e : 30 ≡ l .loop .call = omega arith in
     e ∙ sym (call-none _ calls _ (c .loop-test .left)) ∙ l .loop .inv .1
 
 pub call-of-spec : {M : Type 1} → statement M

@@ -91,7 +91,13 @@ returns-28 : tie.Need-returns-28
 returns-28 c = rw (c .before .before .match .keys28)
 
 returns-29 : tie.Need-returns-29
-returns-29 c = sym (List·getD-eq-default names (replicate 28 32) (past (c .before .args .call) (c .match .rest)))
+returns-29 c = rw (c .before .before .match .keys29)
+
+returns-30 : tie.Need-returns-30
+returns-30 c = rw (c .before .before .match .keys30)
+
+returns-31 : tie.Need-returns-31
+returns-31 c = sym (List·getD-eq-default names (replicate 28 32) (past (c .before .args .call) (c .match .rest)))
 
 pub name-of-spec : {M : Type 1} → statement M
 name-of-spec =
@@ -125,4 +131,6 @@ name-of-spec =
     returns-26
     returns-27
     returns-28
-    returns-29)
+    returns-29
+    returns-30
+    returns-31)
