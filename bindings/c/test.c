@@ -39,6 +39,7 @@ static void fill(double *buffer, double x)
 
 /* What the buffers of a call hold before it, and a copy that the call does not see. */
 static double t[MOST], u[MOST], old_t[MOST], old_u[MOST];
+static bool stopped;
 static size_t landed, swaps, declined;
 
 static void lend(const double *form, size_t len)
@@ -48,6 +49,7 @@ static void lend(const double *form, size_t len)
     memcpy(t, form, len * sizeof *form);
     memcpy(old_t, t, sizeof t);
     memcpy(old_u, u, sizeof u);
+    stopped = true;
     landed = swaps = declined = 9;
 }
 
@@ -68,6 +70,11 @@ static values_call *const both[2] = {vx_block_values, vx_standardised_values};
 
 /* Two 2-blocks with equal values and other scales, whose swap declines. */
 static const double alike[16] = {0, -1, 0, 0, 1, 0, 0, 0, 1, 0, 0, -1e-8, 0, 1, 1e8, 0};
+
+/* The same two with another pair between them, which both can pass. */
+static const double alike_apart[36] = {0, -1, 0, 0, 0, 0,     1, 0, 0, 0, 0,   0,
+                                       0, 0,  4, -2, 0, 0,    0, 0, 2, 4, 0,   0,
+                                       1, 0,  0, 0, 0, -1e-8, 0, 1, 0, 0, 1e8, 0};
 
 static void arithmetic(void)
 {
@@ -213,6 +220,17 @@ static size_t move(size_t n, size_t ld, size_t t_len, size_t u_len, size_t from,
                             &declined);
 }
 
+/* The same by the move that stops: the row that it calls `here` is in `landed`. */
+static size_t stopping(size_t n, size_t ld, size_t t_len, size_t u_len, size_t from, size_t to)
+{
+    return vx_reorder_schur_stopping(n, ld, t, t_len, u_len ? u : NULL, u_len, from, to, &stopped,
+                                     &landed, &swaps, &declined);
+}
+
+/* Both; the mark is set before, and the other leaves it. */
+typedef size_t mover(size_t n, size_t ld, size_t t_len, size_t u_len, size_t from, size_t to);
+static mover *const movers[2] = {move, stopping};
+
 static void moves(void)
 {
     const double unit[4] = {1, 0, 0, 1}, one_two[4] = {1, 0, 0, 2};
@@ -250,6 +268,66 @@ static void moves(void)
     CHECK(landed == 0 && swaps == 63);
 }
 
+static void stopping_moves(void)
+{
+    const double unit[4] = {1, 0, 0, 1}, one_two[4] = {1, 0, 0, 2};
+    const double moved_t[4] = {2, 0, 0, 1}, moved_u[4] = {0, 1, -1, 0};
+
+    /* To its end: on a triangular form it does what the other move does. */
+    lend(one_two_three, 9);
+    CHECK(stopping(3, 3, 9, 0, 0, 2) == VX_DONE);
+    CHECK(t[0] == 2 && t[4] == 3 && t[8] == 1);
+    CHECK(!stopped && landed == 2 && swaps == 2 && declined == 0);
+    lend(one_two, 4);
+    memcpy(u, unit, sizeof unit);
+    CHECK(stopping(2, 2, 4, 4, 1, 0) == VX_DONE);
+    CHECK(!stopped && landed == 0 && swaps == 1 && declined == 0);
+    for (size_t k = 0; k < 4; k++) {
+        SAME(t[k], moved_t[k]);
+        SAME(u[k], moved_u[k]);
+    }
+    lend(turn, 4);
+    CHECK(stopping(2, 2, 4, 0, 1, 0) == VX_DONE);
+    CHECK(!stopped && landed == 0 && swaps == 0 && declined == 0);
+    CHECK(memcmp(t, old_t, sizeof t) == 0);
+    lend(zeros, 0);
+    CHECK(stopping(64, 64, 64 * 64, 0, 63, 0) == VX_DONE);
+    CHECK(!stopped && landed == 0 && swaps == 63 && declined == 0);
+
+    /* The first exchange fails: it counts, and nothing is written. */
+    for (size_t from = 0; from < 2; from++) {
+        lend(alike, 16);
+        CHECK(stopping(4, 4, 16, 16, from, 3) == VX_DONE);
+        CHECK(stopped && landed == 0 && swaps == 1 && declined == 1);
+        CHECK(untouched());
+    }
+    lend(alike, 16);
+    CHECK(stopping(4, 4, 16, 16, 2, 0) == VX_DONE);
+    CHECK(stopped && landed == 2 && swaps == 1 && declined == 1);
+    CHECK(untouched());
+
+    /* The second fails: form and factor are as a move to where it stopped leaves them. */
+    lend(alike_apart, 36);
+    CHECK(stopping(6, 6, 36, 36, 0, 2) == VX_DONE);
+    CHECK(!stopped && landed == 2 && swaps == 1 && declined == 0);
+    memcpy(old_t, t, sizeof t);
+    memcpy(old_u, u, sizeof u);
+    memcpy(t, alike_apart, sizeof alike_apart);
+    fill(u, 9.0);
+    CHECK(stopping(6, 6, 36, 36, 0, 5) == VX_DONE);
+    CHECK(stopped && landed == 2 && swaps == 2 && declined == 1);
+    CHECK(untouched());
+
+    /* Where it stops, the other move goes on, here past the pair below the two. */
+    lend(alike_apart, 36);
+    CHECK(stopping(6, 6, 36, 0, 4, 0) == VX_DONE);
+    CHECK(stopped && landed == 2 && swaps == 2 && declined == 1);
+    CHECK(stopping(6, 6, 36, 0, 0, 5) == VX_DONE);
+    CHECK(stopped && landed == 0 && swaps == 1 && declined == 1);
+    CHECK(move(6, 6, 36, 0, 0, 5) == VX_DONE);
+    CHECK(landed == 4 && swaps == 2 && declined == 1);
+}
+
 static void exchanges(void)
 {
     lend(one_two_three, 9);
@@ -263,12 +341,17 @@ static void exchanges(void)
     CHECK(swaps == 4 && declined == 0);
 }
 
-/* The number that a call on the lent buffers gives: it must leave them all, and count nothing. */
+/* The number that a call on the lent buffers gives: it must leave them all, and count nothing. Both
+ * moves give the same. */
 static size_t refused_move(size_t n, size_t ld, size_t t_len, size_t u_len, size_t from, size_t to)
 {
     landed = swaps = declined = 9;
     size_t number = move(n, ld, t_len, u_len, from, to);
     CHECK(untouched() && landed == 0 && swaps == 0 && declined == 0);
+    stopped = true;
+    landed = swaps = declined = 9;
+    CHECK(stopping(n, ld, t_len, u_len, from, to) == number);
+    CHECK(untouched() && !stopped && landed == 0 && swaps == 0 && declined == 0);
     return number;
 }
 
@@ -465,6 +548,7 @@ static void lend_at(size_t n, size_t ld, const double *form)
         }
     memcpy(old_t, t, sizeof t);
     memcpy(old_u, u, sizeof u);
+    stopped = true;
     landed = swaps = declined = 9;
 }
 
@@ -486,17 +570,29 @@ static void at_a_stride(size_t ld)
     const size_t n = 6, len = 6 * ld;
     double form[36], factor[36], values[12], re[6], im[6];
 
-    lend_at(n, n, six);
-    CHECK(move(n, n, 36, 36, 5, 0) == VX_DONE);
+    for (size_t k = 0; k < PLACES(movers); k++) {
+        lend_at(n, n, six);
+        CHECK(movers[k](n, n, 36, 36, 5, 0) == VX_DONE);
+        memcpy(form, t, sizeof form);
+        memcpy(factor, u, sizeof factor);
+        lend_at(n, ld, six);
+        CHECK(movers[k](n, ld, len, len, 5, 0) == VX_DONE);
+        CHECK(landed == 0 && swaps == 4 && declined == 0 && stopped == !k);
+        CHECK(holds(t, old_t, n, ld, form) && holds(u, old_u, n, ld, factor));
+        lend_at(n, ld, six);
+        CHECK(movers[k](n, ld, len, 0, 5, 0) == VX_DONE);
+        CHECK(holds(t, old_t, n, ld, form) && memcmp(u, old_u, sizeof u) == 0);
+    }
+
+    /* A move that stops at its second exchange. */
+    lend_at(n, n, alike_apart);
+    CHECK(stopping(n, n, 36, 36, 0, 5) == VX_DONE);
     memcpy(form, t, sizeof form);
     memcpy(factor, u, sizeof factor);
-    lend_at(n, ld, six);
-    CHECK(move(n, ld, len, len, 5, 0) == VX_DONE);
-    CHECK(landed == 0 && swaps == 4 && declined == 0);
+    lend_at(n, ld, alike_apart);
+    CHECK(stopping(n, ld, len, len, 0, 5) == VX_DONE);
+    CHECK(stopped && landed == 2 && swaps == 2 && declined == 1);
     CHECK(holds(t, old_t, n, ld, form) && holds(u, old_u, n, ld, factor));
-    lend_at(n, ld, six);
-    CHECK(move(n, ld, len, 0, 5, 0) == VX_DONE);
-    CHECK(holds(t, old_t, n, ld, form) && memcmp(u, old_u, sizeof u) == 0);
 
     lend_at(n, n, six);
     CHECK(vx_schur_swap(n, n, t, 36, u, 36, 1, 2, 1, &swaps, &declined) == VX_DONE);
@@ -537,7 +633,7 @@ static void at_a_stride(size_t ld)
     CHECK(untouched());
 }
 
-/* The number that all five calls give, of buffers that they must leave. The three last lengths are
+/* The number that all six calls give, of buffers that they must leave. The three last lengths are
  * those of the factor or vectors, and of re and im. */
 static size_t refused_by_all(size_t n, size_t ld, size_t t_len, size_t len, size_t re_len,
                              size_t im_len)
@@ -583,8 +679,10 @@ static void strides(void)
         CHECK(both[k](64, 128, t, 64 * 128, u, 64, u + 64, 64) == VX_DONE);
     CHECK(vx_evd_from_real_schur(64, 128, t, 64 * 128, u, 64 * 128) == VX_DONE);
     CHECK(vx_schur_swap(64, 128, t, 64 * 128, u, 64 * 128, 62, 1, 1, &swaps, &declined) == VX_DONE);
-    CHECK(move(64, 128, 64 * 128, 64 * 128, 63, 0) == VX_DONE);
-    CHECK(landed == 0 && swaps == 63);
+    for (size_t k = 0; k < PLACES(movers); k++) {
+        CHECK(movers[k](64, 128, 64 * 128, 64 * 128, 63, 0) == VX_DONE);
+        CHECK(landed == 0 && swaps == 63);
+    }
 }
 
 /* Each number has a sentence of its own, and those that no call gives have one too. */
@@ -613,6 +711,7 @@ int main(void)
     blocks_of_two();
     example();
     moves();
+    stopping_moves();
     exchanges();
     refusals();
     values_and_vectors();

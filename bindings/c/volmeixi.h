@@ -13,8 +13,8 @@
  * array has fewer, and must be copied.
  *
  * A buffer is a pointer and the number of its places; with 0 places it is not looked at and the
- * pointer may be NULL. A single result is a pointer to one number, and a matrix of two rows a
- * pointer to four: neither may be NULL. The results are the last parameters, and what they held
+ * pointer may be NULL. A single result is a pointer to one number or mark, and a matrix of two rows
+ * a pointer to four: neither may be NULL. The results are the last parameters, and what they held
  * before is not read.
  *
  * What a call is given must not overlap: no byte may belong to two of its buffers, matrices and
@@ -26,12 +26,13 @@
  *
  * A call that gives a size_t gives 0 when it was carried out, or the number of the first line
  * below that applies; vx_message has its sentence. Turned away, it has changed no buffer, and its
- * single results are 0. Each call names the lines that it can give. No number of a form is
- * refused: NaN, infinities and subnormals are worked with.
+ * single results are 0, a mark false. Each call names the lines that it can give. No number of a
+ * form is refused: NaN, infinities and subnormals are worked with.
  */
 #ifndef VOLMEIXI_H
 #define VOLMEIXI_H
 
+#include <stdbool.h>
 #include <stddef.h>
 
 #ifdef __cplusplus
@@ -95,6 +96,7 @@ static inline const char *vx_message(size_t number)
  *
  * A swap of two 2-blocks may decline: they stay in place (and are standardised), and a move goes on
  * as if they had been exchanged. If any declined, the row landed on need not hold the moved block.
+ * vx_reorder_schur_stopping stops there, as LAPACK's dtrexc does.
  */
 
 /* Moves the block in row `from` to row `to`, by exchanges of neighbouring blocks, and applies the
@@ -104,6 +106,18 @@ static inline const char *vx_message(size_t number)
  * Gives 0, 2, 17, 3, 4 (u_len), 5, 6 or 7 (from, to). */
 size_t vx_reorder_schur(size_t n, size_t ld, double *t, size_t t_len, double *u, size_t u_len,
                         size_t from, size_t to, size_t *landed, size_t *swaps, size_t *declined);
+
+/* The same as LAPACK's dtrexc and dlaexc do it, by the same swaps: an exchange with a 2-block in it is
+ * tried on a copy first, by dlaexc's tests, and the move stops at the first that fails. The form and
+ * the factor then hold the earlier exchanges, standardised, and nothing of the failed one. On a
+ * triangular form it does what vx_reorder_schur does.
+ * Results: stopped, whether a test has failed; here, the row that the block came to: its last, or
+ * where it stood as the step began in which it stopped; the number of swaps; how many of these
+ * declined: 1 if it stopped, else 0. The failed try counts in both.
+ * Gives 0, 2, 17, 3, 4 (u_len), 5, 6 or 7 (from, to). */
+size_t vx_reorder_schur_stopping(size_t n, size_t ld, double *t, size_t t_len, double *u,
+                                 size_t u_len, size_t from, size_t to, bool *stopped, size_t *here,
+                                 size_t *swaps, size_t *declined);
 
 /* Exchanges the n1 rows from row j0 on with the n2 rows below them. u as in vx_reorder_schur.
  * Results: the number of swaps, 1 to 4 (4 exactly when n1 and n2 are 2, each with a zero inside);

@@ -35,6 +35,20 @@ SIX = (
     *(0.75, 0.25, -0.125, -0.75, 0.25, -0.0625),
 )
 
+# two 2-blocks of equal values and other scales, whose swap declines, and the same with another pair
+# between them, which both can pass
+ALIKE = (0, -1, 0, 0, 1, 0, 0, 0, 1, 0, 0, -1e-8, 0, 1, 1e8, 0)
+ALIKE_APART = (
+    *(0, -1, 0, 0, 0, 0),
+    *(1, 0, 0, 0, 0, 0),
+    *(0, 0, 4, -2, 0, 0),
+    *(0, 0, 2, 4, 0, 0),
+    *(1, 0, 0, 0, 0, -1e-8),
+    *(0, 1, 0, 0, 1e8, 0),
+)
+
+MOVES = (vx.reorder_schur, vx.reorder_schur_stopping)  # which have the same parameters and lines
+
 RAW = (*SIX[:8], 1.5, *SIX[9:])  # the same with a 2-block of one sign, a real pair
 
 # what no form could have beside it: NaN (a signalling one too), infinity, a subnormal, minus zero
@@ -143,11 +157,42 @@ class Worked(Case):
         self.assertEqual(vx.reorder_schur(floats([0] * 4096), None, 63, 0).swaps, 63)
 
     def test_a_swap_that_declines(self):
-        t = floats([0, -1, 0, 0, 1, 0, 0, 0, 1, 0, 0, -1e-8, 0, 1, 1e8, 0])
-        before = t[:]
+        t = floats(ALIKE)
         self.assertEqual(vx.reorder_schur(t, None, 0, 2), vx.Moved(landed=2, swaps=1, declined=1))
         self.assertEqual(vx.schur_swap(t, None, 0, 2, 2), vx.Exchanged(swaps=1, declined=1))
-        self.assertEqual(t, before)
+        self.assertEqual(t, floats(ALIKE))
+
+    def test_stopping_moves_to_their_end(self):
+        """On a triangular form as the other move does it."""
+        form = floats([1, 0, 0, 5, 2, 0, 7, 6, 3])
+        for from_, to in itertools.product(range(3), range(3)):
+            (t, u), (other_t, other_u) = ((form[:], diagonal(1, 1, 1)) for _ in range(2))
+            moved = vx.reorder_schur_stopping(t, u, from_, to)
+            self.assertEqual(moved, (False, *vx.reorder_schur(other_t, other_u, from_, to)))
+            self.assertEqual((bytes(t), bytes(u)), (bytes(other_t), bytes(other_u)))
+        moved = vx.reorder_schur_stopping(floats(TURN), None, 1, 0)
+        self.assertEqual(moved, vx.StoppingMove(stopped=False, here=0, swaps=0, declined=0))
+        self.assertIs(moved.stopped, False)
+
+    def test_moves_that_stop(self):
+        for from_, to, here in ((0, 2, 0), (1, 3, 0), (2, 0, 2), (3, 1, 2)):
+            t, u = floats(ALIKE), diagonal(1, 1, 1, 1)
+            moved = vx.reorder_schur_stopping(t, u, from_, to)
+            self.assertEqual(moved, vx.StoppingMove(stopped=True, here=here, swaps=1, declined=1))
+            self.assertEqual((t, u), (floats(ALIKE), diagonal(1, 1, 1, 1)))
+        self.assertIs(moved.stopped, True)
+
+        # at the second exchange: form and factor as a move to that row leaves them
+        (t, u), (first_t, first_u) = ((floats(ALIKE_APART), diagonal(*[1] * 6)) for _ in range(2))
+        self.assertEqual(vx.reorder_schur_stopping(first_t, first_u, 0, 2), (False, 2, 1, 0))
+        self.assertEqual(vx.reorder_schur_stopping(t, u, 0, 5), (True, 2, 2, 1))
+        self.assertEqual((bytes(t), bytes(u)), (bytes(first_t), bytes(first_u)))
+
+        # where it stops, the other move goes on
+        t = floats(ALIKE_APART)
+        self.assertEqual(vx.reorder_schur_stopping(t, None, 4, 0), (True, 2, 2, 1))
+        self.assertEqual(vx.reorder_schur_stopping(t, None, 0, 5), (True, 0, 1, 1))
+        self.assertEqual(vx.reorder_schur(t, None, 0, 5), (4, 2, 1))
 
     def test_exchanges(self):
         t = diagonal(1, 2, 3)
@@ -170,21 +215,23 @@ class Worked(Case):
             self.assertEqual(vx.schur_swap(t, None, 0, 2, 2), vx.Exchanged(swaps=swaps, declined=0))
 
     def test_moves_refused(self):
-        def move(from_, to):
-            return lambda t, u: vx.reorder_schur(t, u, from_, to)
+        for call in MOVES:
 
-        t, u = diagonal(1, 2, 3), floats([9] * 9)
-        self.refused(2, move(0, 0), floats([]), floats([]))
-        self.refused(2, move(0, 1), floats([0] * 65 * 65), floats([1]))
-        self.assertIn("the form t has 8 numbers", self.refused(3, move(0, 1), t[1:], u))
-        self.assertIn("the factor u has 8 numbers", self.refused(4, move(0, 1), t, u[1:]))
-        for outside in (3, -1, 2**64):
-            self.refused(7, move(outside, 0), t, u)
-            self.refused(7, move(0, outside), t, u)
-        t[1], t[5] = 1, math.nan
-        self.refused(6, move(0, 1), t, u)
-        t[2] = math.nan
-        self.refused(5, move(0, 1), t, u)
+            def move(from_, to):
+                return lambda t, u: call(t, u, from_, to)
+
+            t, u = diagonal(1, 2, 3), floats([9] * 9)
+            self.refused(2, move(0, 0), floats([]), floats([]))
+            self.refused(2, move(0, 1), floats([0] * 65 * 65), floats([1]))
+            self.assertIn("the form t has 8 numbers", self.refused(3, move(0, 1), t[1:], u))
+            self.assertIn("the factor u has 8 numbers", self.refused(4, move(0, 1), t, u[1:]))
+            for outside in (3, -1, 2**64):
+                self.refused(7, move(outside, 0), t, u)
+                self.refused(7, move(0, outside), t, u)
+            t[1], t[5] = 1, math.nan
+            self.refused(6, move(0, 1), t, u)
+            t[2] = math.nan
+            self.refused(5, move(0, 1), t, u)
 
     def test_exchanges_refused(self):
         def exchange(j0, n1, n2):
@@ -423,13 +470,15 @@ class Strides(Case):
     def test_moves_and_exchanges(self):
         unit = diagonal(*[1] * 6)
         for stride in (6, 7, 12, 127, 128):
-            for call in (
-                lambda t, u, **at: vx.reorder_schur(t, u, 5, 0, **at),
-                lambda t, u, **at: vx.schur_swap(t, u, 1, 2, 1, **at),
+            for form, call in (
+                (SIX, lambda t, u, **at: vx.reorder_schur(t, u, 5, 0, **at)),
+                (SIX, lambda t, u, **at: vx.reorder_schur_stopping(t, u, 5, 0, **at)),
+                (ALIKE_APART, lambda t, u, **at: vx.reorder_schur_stopping(t, u, 0, 5, **at)),
+                (SIX, lambda t, u, **at: vx.schur_swap(t, u, 1, 2, 1, **at)),
             ):
-                t, u = floats(SIX), unit[:]
+                t, u = floats(form), unit[:]
                 answer = call(t, u)
-                wide_t, wide_u, alone = (spread(numbers, 6, stride) for numbers in (SIX, unit, SIX))
+                wide_t, wide_u, alone = (spread(numbers, 6, stride) for numbers in (form, unit, form))
                 self.assertEqual(call(wide_t, wide_u, stride=stride), answer)
                 self.assertEqual(bytes(wide_t), bytes(spread(t, 6, stride)))
                 self.assertEqual(bytes(wide_u), bytes(spread(u, 6, stride)))
@@ -464,7 +513,8 @@ class Strides(Case):
     def by_all(self, number, stride, form, further):
         """All calls refuse a form, and a factor or vectors, of so many numbers."""
         t, u = floats([0] * form), floats([9] * further)
-        self.refused(number, lambda t, u: vx.reorder_schur(t, u, 0, 1, stride=stride), t, u)
+        for move in MOVES:
+            self.refused(number, lambda t, u: move(t, u, 0, 1, stride=stride), t, u)
         self.refused(number, lambda t, u: vx.schur_swap(t, u, 0, 1, 1, stride=stride), t, u)
         self.refused(number, lambda t, v: vx.evd_from_real_schur(t, v, stride=stride), t, u)
         if number != 4:
@@ -595,14 +645,16 @@ class Corners(Case):
 
     def test_at_the_end(self):
         """Fewer numbers than the stride times n from the first on: through a copy."""
-        moved, swapped = self.six(), self.six()
+        moved, ended, swapped = self.six(), self.six(), self.six()
         vx.reorder_schur(moved, None, 5, 0)
+        vx.reorder_schur_stopping(ended, None, 5, 0)
         vx.schur_swap(swapped, None, 1, 2, 1)
         for rows, top in ((8, 2), (8, 1), (200 - 72, 1)):
             sheet, part = self.sheet(rows, 8), self.square(top, 2, 6)
             beside = self.beside(sheet, part)
             for name, call, result in (
                 ("reorder_schur", lambda t: vx.reorder_schur(t, None, 5, 0), moved),
+                ("reorder_schur_stopping", lambda t: vx.reorder_schur_stopping(t, None, 5, 0), ended),
                 ("schur_swap", lambda t: vx.schur_swap(t, None, 1, 2, 1), swapped),
             ):
                 sheet[part] = self.six()

@@ -69,6 +69,7 @@ __all__ = [
     "Rotation",
     "RotationWith",
     "Standardised",
+    "StoppingMove",
     "Sylvester",
     "abs1",
     "abs2",
@@ -88,6 +89,7 @@ __all__ = [
     "norm_l2",
     "recip",
     "reorder_schur",
+    "reorder_schur_stopping",
     "rotg",
     "schur_swap",
     "sqrt",
@@ -130,6 +132,20 @@ class Moved(NamedTuple):
     """
 
     landed: int
+    swaps: int
+    declined: int
+
+
+class StoppingMove(NamedTuple):
+    """Whether a test has failed, so that the move stopped there; the row that the block came to; the
+    number of swaps; and how many of these declined: 1 if it stopped, else 0.
+
+    Where it stopped, here is the row in which the block stood as that step began, and the failed try
+    counts in swaps too.
+    """
+
+    stopped: bool
+    here: int
     swaps: int
     declined: int
 
@@ -190,8 +206,10 @@ class Sylvester(NamedTuple):
 
 _FLOAT = ctypes.c_double
 _SIZE = ctypes.c_size_t
+_MARK = ctypes.c_bool
 _TO_FLOAT = ctypes.POINTER(_FLOAT)
 _TO_SIZE = ctypes.POINTER(_SIZE)
+_TO_MARK = ctypes.POINTER(_MARK)
 _FLOATS = (_TO_FLOAT, _SIZE)
 
 # What each call gives, and what it is given: a buffer is its first place and its length, a single
@@ -215,6 +233,10 @@ _GIVEN = {
     "lasy2": (None, *[_TO_FLOAT] * 5),
     "schur_swap": (_SIZE, *[_SIZE] * 2, *_FLOATS, *_FLOATS, *[_SIZE] * 3, *[_TO_SIZE] * 2),
     "reorder_schur": (_SIZE, *[_SIZE] * 2, *_FLOATS, *_FLOATS, *[_SIZE] * 2, *[_TO_SIZE] * 3),
+    "reorder_schur_stopping": (
+        *(_SIZE, *[_SIZE] * 2, *_FLOATS, *_FLOATS, *[_SIZE] * 2),
+        *(_TO_MARK, *[_TO_SIZE] * 3),
+    ),
     "block_values": (_SIZE, *[_SIZE] * 2, *_FLOATS, *_FLOATS, *_FLOATS),
     "standardised_values": (_SIZE, *[_SIZE] * 2, *_FLOATS, *_FLOATS, *_FLOATS),
     "evd_from_real_schur": (_SIZE, *[_SIZE] * 2, *_FLOATS, *_FLOATS),
@@ -271,9 +293,9 @@ def _run(name, *given):
         raise Refusal(number)
 
 
-def _several(name, *given, count, kind=_FLOAT):
-    """The results of a call that gives several numbers, to its last parameters."""
-    results = [kind() for _ in range(count)]
+def _several(name, *given, kinds):
+    """The results of a call that gives several, each of its kind, to its last parameters."""
+    results = [kind() for kind in kinds]
     _run(name, *given, *map(ctypes.byref, results))
     return [result.value for result in results]
 
@@ -453,7 +475,7 @@ def _at_one_stride(n, *buffers):
 # ---- Moves
 
 
-def _changed(name, t, u, stride, *sizes, count):
+def _changed(name, t, u, stride, *sizes, kinds):
     """The results of a call that changes form and factor."""
     t, u = _lent(t), _lent(array("d") if u is None else u)
     n, t = _rows(t, stride, 3, "the form t")
@@ -461,7 +483,7 @@ def _changed(name, t, u, stride, *sizes, count):
         u = _beside(n, stride, u, "the factor u")
         _apart(t, u, n)
     with _at_one_stride(n, t, u) as (stride, t, u):
-        return _several(name, n, stride, t, u, *map(_size, sizes), count=count, kind=_SIZE)
+        return _several(name, n, stride, t, u, *map(_size, sizes), kinds=kinds)
 
 
 def reorder_schur(t, u, from_, to, *, stride=None):
@@ -470,7 +492,22 @@ def reorder_schur(t, u, from_, to, *, stride=None):
     Both are changed in place. A position inside a 2-block means the block's first row. stride is that
     of one dimension, if it is not n. Gives Moved.
     """
-    return Moved(*_changed("reorder_schur", t, u, stride, from_, to, count=3))
+    return Moved(*_changed("reorder_schur", t, u, stride, from_, to, kinds=[_SIZE] * 3))
+
+
+def reorder_schur_stopping(t, u, from_, to, *, stride=None):
+    """Moves the block as LAPACK's dtrexc and dlaexc do it, by the swaps of reorder_schur.
+
+    An exchange with a 2-block in it is tried on a copy first, by dlaexc's tests, and the move stops at
+    the first that fails. Form and factor then hold the earlier exchanges, standardised, and nothing of
+    the failed one. On a triangular form it does what reorder_schur does, and all that is given is as
+    there. Gives StoppingMove.
+
+    >>> reorder_schur_stopping(array("d", [1, 0, 0, 2]), None, 0, 1)
+    StoppingMove(stopped=False, here=1, swaps=1, declined=0)
+    """
+    kinds = [_MARK, *[_SIZE] * 3]
+    return StoppingMove(*_changed("reorder_schur_stopping", t, u, stride, from_, to, kinds=kinds))
 
 
 def schur_swap(t, u, j0, n1, n2, *, stride=None):
@@ -479,7 +516,7 @@ def schur_swap(t, u, j0, n1, n2, *, stride=None):
     swaps is 1 to 4, and 4 exactly when n1 and n2 are 2, each with a zero inside. Form, factor and
     stride are as in reorder_schur.
     """
-    return Exchanged(*_changed("schur_swap", t, u, stride, j0, n1, n2, count=2))
+    return Exchanged(*_changed("schur_swap", t, u, stride, j0, n1, n2, kinds=[_SIZE] * 2))
 
 
 # ---- Values and vectors
@@ -562,7 +599,7 @@ def column(v, col, *, stride=None):
 
 def lahqr_schur22(a, b, c, d):
     """Standardises the block of rows (a, b) and (c, d). Gives Standardised."""
-    a, b, c, d, re1, im1, re2, im2, cs, sn = _several("lahqr_schur22", a, b, c, d, count=10)
+    a, b, c, d, re1, im1, re2, im2, cs, sn = _several("lahqr_schur22", a, b, c, d, kinds=[_FLOAT] * 10)
     return Standardised(a, b, c, d, cs, sn, (complex(re1, im1), complex(re2, im2)))
 
 
@@ -577,7 +614,7 @@ def lasy2(tl, tr, b):
     """Solves tl * x - x * tr = scale * b for x, all of two rows. Gives Sylvester."""
     tl, tr, b = _two_by_two(tl, "tl"), _two_by_two(tr, "tr"), _two_by_two(b, "b")
     x = (_FLOAT * 4)()
-    (scale,) = _several("lasy2", tl, tr, b, x, count=1)
+    (scale,) = _several("lasy2", tl, tr, b, x, kinds=[_FLOAT])
     return Sylvester(tuple(x), scale)
 
 
@@ -586,18 +623,18 @@ def lasy2(tl, tr, b):
 
 def rotg(p, q):
     """The rotation with c * p - s * q = r and s * p + c * q = 0, up to rounding."""
-    c, s, r = _several("rotg", p, q, count=3)
+    c, s, r = _several("rotg", p, q, kinds=[_FLOAT] * 3)
     return RotationWith(Rotation(c, s), r)
 
 
 def adjoint(rot):
     """The rotation back: s negated, a zero's sign too."""
-    return Rotation(*_several("adjoint", *rot, count=2))
+    return Rotation(*_several("adjoint", *rot, kinds=[_FLOAT] * 2))
 
 
 def apply(rot, x, y):
     """The pair c * x + s * y, c * y - s * x."""
-    return tuple(_several("apply", *rot, x, y, count=2))
+    return tuple(_several("apply", *rot, x, y, kinds=[_FLOAT] * 2))
 
 
 def make_householder_in_place(head, tail):
@@ -609,7 +646,7 @@ def make_householder_in_place(head, tail):
     tail = _lent(tail)
     if len(tail.shape) != 1:
         raise TypeError("a tail has one dimension")
-    return Reflection(*_several("make_householder_in_place", head, tail, count=4))
+    return Reflection(*_several("make_householder_in_place", head, tail, kinds=[_FLOAT] * 4))
 
 
 # ---- Arithmetic: nothing is turned away

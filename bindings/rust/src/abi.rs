@@ -68,6 +68,20 @@ extern "C" {
         swaps: &mut usize,
         declined: &mut usize,
     ) -> usize;
+    pub fn vx_reorder_schur_stopping(
+        n: usize,
+        ld: usize,
+        t: *mut f64,
+        t_len: usize,
+        u: *mut f64,
+        u_len: usize,
+        from: usize,
+        to: usize,
+        stopped: &mut bool,
+        here: &mut usize,
+        swaps: &mut usize,
+        declined: &mut usize,
+    ) -> usize;
     pub fn vx_block_values(
         n: usize,
         ld: usize,

@@ -17,6 +17,26 @@ const SIX: [f64; 36] = [
     0.75, 0.25, -0.125, -0.75, 0.25, -0.0625,
 ];
 
+/// Two 2-blocks of equal values and other scales, whose swap declines.
+#[rustfmt::skip]
+const ALIKE: [f64; 16] = [
+    0.0, -1.0, 0.0, 0.0,
+    1.0, 0.0, 0.0, 0.0,
+    1.0, 0.0, 0.0, -1e-8,
+    0.0, 1.0, 1e8, 0.0,
+];
+
+/// The same two with another pair between them, which both can pass.
+#[rustfmt::skip]
+const ALIKE_APART: [f64; 36] = [
+    0.0, -1.0, 0.0, 0.0, 0.0, 0.0,
+    1.0, 0.0, 0.0, 0.0, 0.0, 0.0,
+    0.0, 0.0, 4.0, -2.0, 0.0, 0.0,
+    0.0, 0.0, 2.0, 4.0, 0.0, 0.0,
+    1.0, 0.0, 0.0, 0.0, 0.0, -1e-8,
+    0.0, 1.0, 0.0, 0.0, 1e8, 0.0,
+];
+
 fn same(x: f64, y: f64) {
     assert_eq!(x.to_bits(), y.to_bits(), "{x} is not {y}");
 }
@@ -133,11 +153,60 @@ fn a_block_on_its_own() {
 
 #[test]
 fn a_swap_that_declines() {
-    let alike = [0.0, -1.0, 0.0, 0.0, 1.0, 0.0, 0.0, 0.0, 1.0, 0.0, 0.0, -1e-8, 0.0, 1.0, 1e8, 0.0];
-    let mut t = alike;
+    let mut t = ALIKE;
     assert_eq!(reorder_schur(4, &mut t, None, 0, 2), Ok(Moved { landed: 2, swaps: 1, declined: 1 }));
-    assert_eq!(t, alike);
+    assert_eq!(t, ALIKE);
     assert_eq!(schur_swap(4, &mut t, None, 0, 2, 2), Ok(Exchanged { swaps: 1, declined: 1 }));
+}
+
+/// A stopping move without a factor.
+fn stopping(n: usize, t: &mut [f64], from: usize, to: usize) -> StoppingMove {
+    reorder_schur_stopping(n, t, None, from, to).unwrap()
+}
+
+#[test]
+fn stopping_moves_to_their_end() {
+    for (from, to) in [(0, 2), (2, 0), (1, 1), (1, 2)] {
+        let form = [1.0, 0.0, 0.0, 5.0, 2.0, 0.0, 7.0, 6.0, 3.0];
+        let (mut t, mut u) = (form, diagonal(&[1.0; 3]));
+        let (mut old_t, mut old_u) = (form, diagonal(&[1.0; 3]));
+        let Moved { landed, swaps, declined } = reorder_schur(3, &mut old_t, Some(&mut old_u), from, to).unwrap();
+        assert_eq!(
+            reorder_schur_stopping(3, &mut t, Some(&mut u), from, to),
+            Ok(StoppingMove { stopped: false, here: landed, swaps, declined })
+        );
+        assert_eq!((bits(&t), bits(&u)), (bits(&old_t), bits(&old_u)));
+    }
+    let mut t = TURN;
+    assert_eq!(stopping(2, &mut t, 1, 0), StoppingMove { stopped: false, here: 0, swaps: 0, declined: 0 });
+    assert_eq!(t, TURN);
+}
+
+#[test]
+fn moves_that_stop() {
+    // at the first exchange: nothing is written
+    for (from, here) in [(0, 0), (1, 0), (2, 2), (3, 2)] {
+        let mut t = ALIKE;
+        assert_eq!(stopping(4, &mut t, from, 2 - here), StoppingMove { stopped: true, here, swaps: 1, declined: 1 });
+        assert_eq!(bits(&t), bits(&ALIKE));
+    }
+    // at the second: as a move to that row leaves them
+    let (mut t, mut u) = (ALIKE_APART, diagonal(&[1.0; 6]));
+    let (mut first_t, mut first_u) = (ALIKE_APART, diagonal(&[1.0; 6]));
+    assert_eq!(
+        reorder_schur_stopping(6, &mut first_t, Some(&mut first_u), 0, 2),
+        Ok(StoppingMove { stopped: false, here: 2, swaps: 1, declined: 0 })
+    );
+    assert_eq!(
+        reorder_schur_stopping(6, &mut t, Some(&mut u), 0, 5),
+        Ok(StoppingMove { stopped: true, here: 2, swaps: 2, declined: 1 })
+    );
+    assert_eq!((bits(&t), bits(&u)), (bits(&first_t), bits(&first_u)));
+    // where it stops, the other move goes on
+    let mut t = ALIKE_APART;
+    assert_eq!(stopping(6, &mut t, 4, 0), StoppingMove { stopped: true, here: 2, swaps: 2, declined: 1 });
+    assert_eq!(stopping(6, &mut t, 0, 5), StoppingMove { stopped: true, here: 0, swaps: 1, declined: 1 });
+    assert_eq!(reorder_schur(6, &mut t, None, 0, 5), Ok(Moved { landed: 4, swaps: 2, declined: 1 }));
 }
 
 #[test]
@@ -230,7 +299,11 @@ fn edges_that_pass() {
 fn moves_refused() {
     let t = diagonal(&[1.0, 2.0, 3.0]);
     let u = [9.0; 9];
-    let of = |n, t: &[f64], u: &[f64], from, to| refused(t, u, |t, u| reorder_schur(n, t, u, from, to));
+    let of = |n, t: &[f64], u: &[f64], from, to| {
+        let refusal = refused(t, u, |t, u| reorder_schur(n, t, u, from, to));
+        assert_eq!(refused(t, u, |t, u| reorder_schur_stopping(n, t, u, from, to)), refusal);
+        refusal
+    };
     assert_eq!(of(0, &[], &[], 0, 0), Refusal::Rows);
     assert_eq!(of(65, &vec![0.0; 65 * 65], &[], 0, 1), Refusal::Rows);
     assert_eq!(of(3, &t[1..], &u, 0, 1), Refusal::FormLength);
@@ -279,13 +352,16 @@ fn values_and_vectors_refused() {
     assert_eq!(column(2, &TURN, 2), Err(Refusal::Position));
 }
 
-/// What a call on SIX and the unit factor gives at any stride: the same, rows and answer, as without
-/// gaps, with a factor and without.
-fn at_a_stride<T: std::fmt::Debug + PartialEq>(call: impl Fn(&mut ViewMut, Option<&mut [f64]>) -> T) -> T {
-    let (mut t, mut u) = (SIX, diagonal(&[1.0; 6]));
+/// What a call on six rows and the unit factor gives at any stride: the same, rows and answer, as
+/// without gaps, with a factor and without.
+fn at_a_stride<T: std::fmt::Debug + PartialEq>(
+    six: &[f64; 36],
+    call: impl Fn(&mut ViewMut, Option<&mut [f64]>) -> T,
+) -> T {
+    let (mut t, mut u) = (*six, diagonal(&[1.0; 6]));
     let answer = call(&mut ViewMut { n: 6, stride: 6, numbers: &mut t }, Some(&mut u));
     for stride in [6, 7, 12, 127, 128] {
-        let (mut wide_t, mut wide_u) = (spread(6, stride, &SIX), spread(6, stride, &diagonal(&[1.0; 6])));
+        let (mut wide_t, mut wide_u) = (spread(6, stride, six), spread(6, stride, &diagonal(&[1.0; 6])));
         let mut alone = wide_t.clone();
         assert_eq!(call(&mut ViewMut { n: 6, stride, numbers: &mut wide_t }, Some(&mut wide_u)), answer);
         assert_eq!(call(&mut ViewMut { n: 6, stride, numbers: &mut alone }, None), answer);
@@ -298,10 +374,15 @@ fn at_a_stride<T: std::fmt::Debug + PartialEq>(call: impl Fn(&mut ViewMut, Optio
 
 #[test]
 fn moves_and_exchanges_at_a_stride() {
-    let moved = at_a_stride(|t, u| t.reorder_schur(u, 5, 0));
+    let moved = at_a_stride(&SIX, |t, u| t.reorder_schur(u, 5, 0));
     assert_eq!(moved, Ok(Moved { landed: 0, swaps: 4, declined: 0 }));
     assert_eq!(reorder_schur(6, &mut SIX.clone(), None, 5, 0), moved);
-    let done = at_a_stride(|t, u| t.schur_swap(u, 1, 2, 1));
+    for (form, from, to) in [(SIX, 5, 0), (ALIKE_APART, 0, 5), (ALIKE_APART, 5, 0)] {
+        let moved = at_a_stride(&form, |t, u| t.reorder_schur_stopping(u, from, to)).unwrap();
+        assert_eq!(moved.stopped, form != SIX);
+        assert_eq!(stopping(6, &mut form.clone(), from, to), moved);
+    }
+    let done = at_a_stride(&SIX, |t, u| t.schur_swap(u, 1, 2, 1));
     assert_eq!(done, Ok(Exchanged { swaps: 1, declined: 0 }));
     assert_eq!(schur_swap(6, &mut SIX.clone(), None, 1, 2, 1), done);
 }
@@ -339,6 +420,7 @@ fn refused_by_all(n: usize, stride: usize, lengths: [usize; 4]) -> Refusal {
     let [t_len, len, re_len, im_len] = lengths;
     let (t, u) = (vec![0.0; t_len], vec![9.0; len]);
     let refusal = refused(&t, &u, |t, u| ViewMut { n, stride, numbers: t }.reorder_schur(u, 0, 1));
+    assert_eq!(refused(&t, &u, |t, u| ViewMut { n, stride, numbers: t }.reorder_schur_stopping(u, 0, 1)), refusal);
     assert_eq!(refused(&t, &u, |t, u| ViewMut { n, stride, numbers: t }.schur_swap(u, 0, 1, 1)), refusal);
     let form = View { n, stride, numbers: &t };
     assert_eq!(refused(&t, &u, |_, v| form.evd_from_real_schur(v.unwrap())), refusal);
@@ -381,7 +463,12 @@ fn strides_refused() {
 fn forms_refused_at_a_stride() {
     let of = |t: &[f64]| {
         let (t, u) = (spread(6, 8, t), spread(6, 8, &[9.0; 36]));
-        refused(&t, &u, |t, u| ViewMut { n: 6, stride: 8, numbers: t }.reorder_schur(u, 6, 0))
+        let refusal = refused(&t, &u, |t, u| ViewMut { n: 6, stride: 8, numbers: t }.reorder_schur(u, 6, 0));
+        assert_eq!(
+            refused(&t, &u, |t, u| ViewMut { n: 6, stride: 8, numbers: t }.reorder_schur_stopping(u, 6, 0)),
+            refusal
+        );
+        refusal
     };
     let mut t = SIX;
     assert_eq!(of(&t), Refusal::Position);
