@@ -40,6 +40,8 @@ lines =
     ∷ Forms.column 1
     ∷ Forms.standardisedValues 0
     ∷ Forms.standardisedValues 1
+    ∷ Forms.reorderSchurStopping 0
+    ∷ Forms.reorderSchurStopping 1
     ∷ []
 
 -- what is no call has no lines

@@ -41,6 +41,8 @@ pub fn run(call: usize, w: &[u64]) -> Outcome
         25 => vectors::column(1, w),
         26 => vectors::standardised_values(0, w),
         27 => vectors::standardised_values(1, w),
+        28 => moves::reorder_schur_stopping(0, w),
+        29 => moves::reorder_schur_stopping(1, w),
         _ => Outcome::Malformed,
     }
 }

@@ -1,11 +1,12 @@
 -- What a line of each call on forms shows, by the call's definition in model. Definitions only. Assumes nothing.
 use Prim.Native.Nat.{ℕ, _+_, _*_}
-use mathlib.Core.Bool.{Bool, true, false, _&&_}
+use mathlib.Core.Bool.{Bool, true, false, _&&_, cond}
 use mathlib.Core.List.{List}
 use lib.Dec.{eqb, leb}
 use lib.ListN.{length, getD, take, drop}
 use lib.Ieee.{Float, binary64}
 use Rattle.model.specs.Move as Move
+use Rattle.model.specs.Stopping as Stopping
 use Rattle.model.specs.Exchange as Exchange
 use Rattle.model.specs.Vectors as Vectors
 use Rattle.model.specs.Values as Values
@@ -30,6 +31,10 @@ fits words rest once a b = leb once 8320 && leb a 8320 && leb b 8320 && eqb word
 
 -- Where a line has no stride, n serves for it; with one word more, the stride stands after n.
 
+-- the words from word i on are what every answer on a form and a factor ends with: swaps, declined, form and factor
+abbrev pub ends : List ℕ → ℕ → ℕ → ℕ → ℕ → List Float → ℕ → List Float → Bool
+ends w i swaps declined a form b factor = is w i swaps && is w (i + 1) declined && are w (i + 2) a form && are w (i + 2 + a) b factor
+
 -- the move of a line, with a form of a numbers and a factor of b
 abbrev pub moveIn : ℕ → List ℕ → ℕ → ℕ → Move.Moved
 moveIn more w a b = Move.moveCall binary64 (getD w (2 + more) 0) (getD w 2 0) (from w (5 + more) a) (from w (5 + more + a) b) (getD w (3 + more) 0) (getD w (4 + more) 0)
@@ -39,10 +44,20 @@ unfoldable pub sameMove : ℕ → List ℕ → ℕ → ℕ → Bool
 sameMove more w a b =
     let r = moveIn more w a b in
     let e = 5 + more + a + b in
-    is w e (r .answer) && is w (e + 1) (r .landed) && is w (e + 2) (r .swaps) && is w (e + 3) (r .declined)
-    && are w (e + 4) a (r .form) && are w (e + 4 + a) b (r .factor)
+    is w e (r .answer) && is w (e + 1) (r .landed) && ends w (e + 2) (r .swaps) (r .declined) a (r .form) b (r .factor)
 
--- an exchange, likewise
+-- the stopping move, likewise, with 1 for the mark
+abbrev pub stoppingIn : ℕ → List ℕ → ℕ → ℕ → Stopping.Stopped
+stoppingIn more w a b =
+    Stopping.stoppingCall binary64 (getD w (2 + more) 0) (getD w 2 0) (from w (5 + more) a) (from w (5 + more + a) b) (getD w (3 + more) 0) (getD w (4 + more) 0)
+
+unfoldable pub sameStopping : ℕ → List ℕ → ℕ → ℕ → Bool
+sameStopping more w a b =
+    let r = stoppingIn more w a b in
+    let e = 5 + more + a + b in
+    is w e (r .answer) && is w (e + 1) (cond (r .stopped) 1 0) && is w (e + 2) (r .here) && ends w (e + 3) (r .swaps) (r .declined) a (r .form) b (r .factor)
+
+-- an exchange
 abbrev pub exchangeIn : ℕ → List ℕ → ℕ → ℕ → Exchange.Exchanged
 exchangeIn more w a b =
     Exchange.exchangeCall binary64 (getD w (2 + more) 0) (getD w 2 0) (from w (6 + more) a) (from w (6 + more + a) b) (getD w (3 + more) 0) (getD w (4 + more) 0) (getD w (5 + more) 0)
@@ -51,8 +66,7 @@ unfoldable pub sameExchange : ℕ → List ℕ → ℕ → ℕ → Bool
 sameExchange more w a b =
     let r = exchangeIn more w a b in
     let e = 6 + more + a + b in
-    is w e (r .answer) && is w (e + 1) (r .swaps) && is w (e + 2) (r .declined)
-    && are w (e + 3) a (r .form) && are w (e + 3 + a) b (r .factor)
+    is w e (r .answer) && ends w (e + 1) (r .swaps) (r .declined) a (r .form) b (r .factor)
 
 -- a form of a numbers and b lent for its vectors
 abbrev pub vectorsIn : ℕ → List ℕ → ℕ → ℕ → Vectors.Vectors
@@ -68,6 +82,7 @@ sameVectors more w a b =
 unfoldable pub fitsTwo : ℕ → Call → ℕ → ℕ → ℕ → Bool
 unfolding fits
 fitsTwo more Call.Move words a b = fits words (9 + more) 0 a b
+fitsTwo more Call.Stopping words a b = fits words (10 + more) 0 a b
 fitsTwo more Call.Exchange words a b = fits words (9 + more) 0 a b
 fitsTwo more Call.Vectors words a b = fits words (4 + more) a b 0
 
@@ -78,8 +93,9 @@ pub record Two : Type 0 where
   pub second : List Float
 
 unfoldable pub two : ℕ → Call → List ℕ → ℕ → ℕ → Two
-unfolding sameMove sameExchange sameVectors
+unfolding sameMove sameStopping sameExchange sameVectors
 two more Call.Move w a b = record { same = sameMove more w a b; first = moveIn more w a b .form; second = moveIn more w a b .factor }
+two more Call.Stopping w a b = record { same = sameStopping more w a b; first = stoppingIn more w a b .form; second = stoppingIn more w a b .factor }
 two more Call.Exchange w a b = record { same = sameExchange more w a b; first = exchangeIn more w a b .form; second = exchangeIn more w a b .factor }
 two more Call.Vectors w a b = record { same = sameVectors more w a b; first = from w (3 + more) a; second = vectorsIn more w a b .v }
 
@@ -89,6 +105,9 @@ onTwo more call w = let a = getD w 0 0 in let b = getD w 1 0 in judged (fitsTwo 
 
 abbrev pub reorderSchur : ℕ → List ℕ → Outcome
 reorderSchur more w = onTwo more Call.Move w
+
+abbrev pub reorderSchurStopping : ℕ → List ℕ → Outcome
+reorderSchurStopping more w = onTwo more Call.Stopping w
 
 abbrev pub schurSwap : ℕ → List ℕ → Outcome
 schurSwap more w = onTwo more Call.Exchange w

@@ -18,7 +18,7 @@ pub fn room() -> [f64; 8320]
 // Whether so many words are `rest` and buffers that a room holds: one of `once` numbers that
 // is given, and two of a and b numbers that are given and expected.
 pub fn fits(words: usize, rest: usize, once: usize, a: usize, b: usize) -> bool
-    requires { ⌜ rest ≤ 10 ⌝ }
+    requires { ⌜ rest ≤ 11 ⌝ }
     ensures { λ r. ⌜ r ≡ Lines.fits words rest once a b ⌝ }
 {
     if once > 8320 {
@@ -40,6 +40,17 @@ pub fn fill(x: &mut [f64], w: &[u64], i: usize)
 {
     let end = i + x.len();
     floats_of(&w[i..end], x);
+}
+
+// The same of two buffers, the second's words after the first's.
+pub fn fill_two(x: &mut [f64], y: &mut [f64], w: &[u64], i: usize)
+    requires { ⌜ i + length (now x) + length (now y) ≤ length (now w) ⌝ }
+    ensures { λ _. ⌜ (now (x .exit) ≡ from (now (w .entry)) i (length (now (x .entry))))
+        × (now (y .exit) ≡ from (now (w .entry)) (i + length (now (x .entry))) (length (now (y .entry)))) ⌝ }
+{
+    let second = i + x.len();
+    fill(&mut *x, w, i);
+    fill(&mut *y, w, second);
 }
 
 // Whether the numbers x are those of the k words from word i on.

@@ -9,6 +9,7 @@ use crate::buffers::fits;
 use crate::buffers::room;
 use crate::moves::same_exchange;
 use crate::moves::same_move;
+use crate::moves::same_stopping;
 use crate::vectors::same_vectors;
 use replay_text::outcome::Outcome;
 use replay_text::outcome::judge;
@@ -16,6 +17,7 @@ use replay_text::outcome::judge;
 // The call that a line is of.
 pub enum Call {
     Move,
+    Stopping,
     Exchange,
     Vectors,
 }
@@ -27,6 +29,7 @@ fn fits_two(more: usize, call: Call, words: usize, a: usize, b: usize) -> bool
 {
     match call {
         Call::Move => fits(words, 9 + more, 0, a, b),
+        Call::Stopping => fits(words, 10 + more, 0, a, b),
         Call::Exchange => fits(words, 9 + more, 0, a, b),
         Call::Vectors => fits(words, 4 + more, a, b, 0),
     }
@@ -39,6 +42,7 @@ fn same(more: usize, call: Call, w: &[u64], t: &mut [f64], u: &mut [f64]) -> boo
 {
     match call {
         Call::Move => same_move(more, w, t, u),
+        Call::Stopping => same_stopping(more, w, t, u),
         Call::Exchange => same_exchange(more, w, t, u),
         Call::Vectors => same_vectors(more, w, t, u),
     }

@@ -10,6 +10,7 @@ ghost use Rattle.values.specs.Reading.{reading};
 ghost use Rattle.replay_forms.specs.Lines as Lines;
 use crate::buffers::are;
 use crate::buffers::fill;
+use crate::buffers::fill_two;
 use crate::buffers::fits;
 use crate::buffers::room;
 use crate::two::Call;
@@ -27,8 +28,7 @@ pub fn same_vectors(more: usize, w: &[u64], t: &mut [f64], v: &mut [f64]) -> boo
 {
     let a = t.len();
     let b = v.len();
-    fill(&mut *t, w, 3 + more);
-    fill(&mut *v, w, 3 + more + a);
+    fill_two(&mut *t, &mut *v, w, 3 + more);
     let n = w[2] as usize;
     let ld = w[2 + more] as usize;
     let r = evd::vectors::evd_from_real_schur(n, ld, &*t, &mut *v);

@@ -8,7 +8,7 @@ abbrev Inv-loop : tie.InvT-loop
 Inv-loop runs differ row₀ t5 row = Unit {0}
 
 abbrev μ-loop : tie.MeasureT-loop
-μ-loop runs differ row₀ t5 row = 29 - row
+μ-loop runs differ row₀ t5 row = 31 - row
 
 loop-holds : tie.Need-loop-holds Inv-loop μ-loop
 loop-holds c = search needs

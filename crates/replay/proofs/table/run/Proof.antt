@@ -94,6 +94,12 @@ standardised-values-requires c κs = search needs
 standardised-values-requires-2 : tie.Need-standardised-values-requires-2
 standardised-values-requires-2 c κs = search needs
 
+reorder-schur-stopping-requires : tie.Need-reorder-schur-stopping-requires
+reorder-schur-stopping-requires c κs = search needs
+
+reorder-schur-stopping-requires-2 : tie.Need-reorder-schur-stopping-requires-2
+reorder-schur-stopping-requires-2 c κs = search needs
+
 returns : tie.Need-returns
 returns c = rw (c .before .match .keys1) (c .abs .ensures)
 
@@ -179,7 +185,13 @@ returns-28 : tie.Need-returns-28
 returns-28 c = rw (c .before .match .keys28) (c .standardised-values2 .ensures)
 
 returns-29 : tie.Need-returns-29
-returns-29 c =
+returns-29 c = rw (c .before .match .keys29) (c .reorder-schur-stopping .ensures)
+
+returns-30 : tie.Need-returns-30
+returns-30 c = rw (c .before .match .keys30) (c .reorder-schur-stopping2 .ensures)
+
+returns-31 : tie.Need-returns-31
+returns-31 c =
     let a = c .before .before .args in
     ap (λ (f : List ℕ → Outcome). f (a .w .now)) (sym (List·getD-eq-default lines none (past (a .call) (c .match .rest))))
 
@@ -215,6 +227,8 @@ run-spec =
     column-requires-2
     standardised-values-requires
     standardised-values-requires-2
+    reorder-schur-stopping-requires
+    reorder-schur-stopping-requires-2
     returns
     returns-2
     returns-3
@@ -243,4 +257,6 @@ run-spec =
     returns-26
     returns-27
     returns-28
-    returns-29)
+    returns-29
+    returns-30
+    returns-31)

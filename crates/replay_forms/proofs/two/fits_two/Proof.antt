@@ -31,6 +31,15 @@ add-fits-3 c = search needs
 fits-requires-3 : tie.Need-fits-requires-3
 fits-requires-3 c κs = search needs
 
+enum-told-4 : tie.Need-enum-told-4
+enum-told-4 c = search needs
+
+add-fits-4 : tie.Need-add-fits-4
+add-fits-4 c = search needs
+
+fits-requires-4 : tie.Need-fits-requires-4
+fits-requires-4 c κs = search needs
+
 returns : tie.Need-returns
 unfolding fitsTwo
 returns c = rw (c .before .enum-told .given .1, c .fits2 .ensures)
@@ -42,6 +51,10 @@ returns-2 c = rw (c .before .enum-told2 .given .1, c .fits3 .ensures)
 returns-3 : tie.Need-returns-3
 unfolding fitsTwo
 returns-3 c = rw (c .before .enum-told3 .given .1, c .fits4 .ensures)
+
+returns-4 : tie.Need-returns-4
+unfolding fitsTwo
+returns-4 c = rw (c .before .enum-told4 .given .1, c .fits5 .ensures)
 
 pub fits-two-spec : {M : Type 1} → statement M
 fits-two-spec =
@@ -56,6 +69,10 @@ fits-two-spec =
     enum-told-3
     add-fits-3
     fits-requires-3
+    enum-told-4
+    add-fits-4
+    fits-requires-4
     returns
     returns-2
-    returns-3)
+    returns-3
+    returns-4)

@@ -19,8 +19,8 @@ same-move-requires c κs =
 enum-told-2 : tie.Need-enum-told-2
 enum-told-2 c = search needs
 
-same-exchange-requires : tie.Need-same-exchange-requires
-same-exchange-requires c κs =
+same-stopping-requires : tie.Need-same-stopping-requires
+same-stopping-requires c κs =
     let e = c .before .before in
     let s = e .before .before .before .before .before in
     let f = fit-of _ _ _ _ _ _ (e .enum-told2 .given .1) (s .pre .1) in
@@ -29,11 +29,21 @@ same-exchange-requires c κs =
 enum-told-3 : tie.Need-enum-told-3
 enum-told-3 c = search needs
 
+same-exchange-requires : tie.Need-same-exchange-requires
+same-exchange-requires c κs =
+    let e = c .before .before in
+    let s = e .before .before .before .before .before in
+    let f = fit-of _ _ _ _ _ _ (e .enum-told3 .given .1) (s .pre .1) in
+    (f .first, f .second, s .pre .0, omega (arith, f .all))
+
+enum-told-4 : tie.Need-enum-told-4
+enum-told-4 c = search needs
+
 same-vectors-requires : tie.Need-same-vectors-requires
 same-vectors-requires c κs =
     let e = c .before .before in
     let s = e .before .before .before .before .before in
-    let f = fit-of _ _ _ _ _ _ (e .enum-told3 .given .1) (s .pre .1) in
+    let f = fit-of _ _ _ _ _ _ (e .enum-told4 .given .1) (s .pre .1) in
     (f .given, f .first, s .pre .0, omega (arith, f .all))
 
 same-length : tie.Need-same-length
@@ -60,7 +70,7 @@ unfolding two
 returns-2 c =
     let m = c .before .before .before .before in
     let e = m .before .before .before .enum-told2 .given .1 in
-    rw (e, m .same-exchange .ensures .0, m .same-exchange .ensures .1, m .same-exchange .ensures .2)
+    rw (e, m .same-stopping .ensures .0, m .same-stopping .ensures .1, m .same-stopping .ensures .2)
 
 same-length-5 : tie.Need-same-length-5
 same-length-5 c = search needs
@@ -73,6 +83,19 @@ unfolding two
 returns-3 c =
     let m = c .before .before .before .before in
     let e = m .before .before .before .enum-told3 .given .1 in
+    rw (e, m .same-exchange .ensures .0, m .same-exchange .ensures .1, m .same-exchange .ensures .2)
+
+same-length-7 : tie.Need-same-length-7
+same-length-7 c = search needs
+
+same-length-8 : tie.Need-same-length-8
+same-length-8 c = search needs
+
+returns-4 : tie.Need-returns-4
+unfolding two
+returns-4 c =
+    let m = c .before .before .before .before in
+    let e = m .before .before .before .enum-told4 .given .1 in
     rw (e, m .same-vectors .ensures .0, m .same-vectors .ensures .1, m .same-vectors .ensures .2)
 
 pub same-spec : {M : Type 1} → statement M
@@ -82,8 +105,10 @@ same-spec =
     enum-told
     same-move-requires
     enum-told-2
-    same-exchange-requires
+    same-stopping-requires
     enum-told-3
+    same-exchange-requires
+    enum-told-4
     same-vectors-requires
     same-length
     same-length-2
@@ -93,4 +118,7 @@ same-spec =
     returns-2
     same-length-5
     same-length-6
-    returns-3)
+    returns-3
+    same-length-7
+    same-length-8
+    returns-4)

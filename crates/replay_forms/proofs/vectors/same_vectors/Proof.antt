@@ -4,20 +4,11 @@ use borrow.Author.Needs.{needs}
 use Rattle.replay_forms.proofs.vectors.same_vectors.Statement.{statement}
 use Rattle.replay_forms.proofs.vectors.same_vectors.Tie as tie
 
-add-fill : tie.Need-add-fill
-add-fill c = search needs
+add-fill-two : tie.Need-add-fill-two
+add-fill-two c = search needs
 
-fill-requires : tie.Need-fill-requires
-fill-requires c κs = search needs
-
-add-fill-2 : tie.Need-add-fill-2
-add-fill-2 c = search needs
-
-add-fill-3 : tie.Need-add-fill-3
-add-fill-3 c = search needs
-
-fill-requires-2 : tie.Need-fill-requires-2
-fill-requires-2 c κs = search needs
+fill-two-requires : tie.Need-fill-two-requires
+fill-two-requires c κs = search needs
 
 shared-slice-read-n : tie.Need-shared-slice-read-n
 shared-slice-read-n c = search needs
@@ -65,22 +56,18 @@ returns : tie.Need-returns
 unfolding sameVectors
 returns c =
     let c1 = c .before .before .before .before .before in
-    let c2 = c1 .before .before .before .before .before .before .before in
-    let c3 = c2 .before .before .before .before in (
-      rw (c .are .ensures, ← c3 .fill .ensures, ← c2 .fill2 .ensures, ← c1 .evd-from-real-schur .ensures),
-      c3 .fill .ensures,
-      rw (← c3 .fill .ensures, ← c2 .fill2 .ensures, ← c1 .evd-from-real-schur .ensures),
+    let c2 = c1 .before .before .before .before .before .before .before .before .before in (
+      rw (c .are .ensures, ← c2 .fill-two .ensures .0, ← c2 .fill-two .ensures .1, ← c1 .evd-from-real-schur .ensures),
+      c2 .fill-two .ensures .0,
+      rw (← c2 .fill-two .ensures .0, ← c2 .fill-two .ensures .1, ← c1 .evd-from-real-schur .ensures),
     )
 
 pub same-vectors-spec : {M : Type 1} → statement M
 same-vectors-spec =
     tie.close
     (tie.spec
-    add-fill
-    fill-requires
-    add-fill-2
-    add-fill-3
-    fill-requires-2
+    add-fill-two
+    fill-two-requires
     shared-slice-read-n
     add-ld
     mul-ld
