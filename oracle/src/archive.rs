@@ -57,6 +57,7 @@ fn run(case: &Record) -> Option<Record> {
         "lasy2" => solve(case)?,
         "schur_swap" => exchange(case)?,
         "reorder_schur" => reorder(case)?,
+        "reorder_schur_stopping" => reorder_stopping(case)?,
         "block_values" => values(case, vx_block_values()?),
         "standardised_values" => values(case, vx_standardised_values()?),
         "evd_from_real_schur" => vectors(case)?,
@@ -160,6 +161,31 @@ fn reorder(case: &Record) -> Option<Record> {
         f(n, ld, t.as_mut_ptr(), t.len(), u.as_mut_ptr(), u.len(), from, to, &mut landed, &mut swaps, &mut declined)
     };
     Some(calls::counts(numbered(case, number), calls::MOVED, &[landed, swaps, declined]).list("t", t).list("u", u))
+}
+
+fn reorder_stopping(case: &Record) -> Option<Record> {
+    let f = vx_reorder_schur_stopping()?;
+    let (mut t, mut u) = (case.l("t").to_vec(), case.l("u").to_vec());
+    let (n, ld, from, to) = (case.n("n"), stride::of(case), case.n("from"), case.n("to"));
+    let (mut stopped, [mut here, mut swaps, mut declined]) = (UNWRITTEN as u8, [UNWRITTEN as usize; 3]);
+    let number = unsafe {
+        f(
+            n,
+            ld,
+            t.as_mut_ptr(),
+            t.len(),
+            u.as_mut_ptr(),
+            u.len(),
+            from,
+            to,
+            &mut stopped,
+            &mut here,
+            &mut swaps,
+            &mut declined,
+        )
+    };
+    let results = [usize::from(stopped), here, swaps, declined];
+    Some(calls::counts(numbered(case, number), calls::STOPPED, &results).list("t", t).list("u", u))
 }
 
 /// The values by one of the two readings, which take the same arguments.

@@ -22,6 +22,8 @@ macro_rules! archive {
 type Read = *const f64;
 type Write = *mut f64;
 type Count = *mut usize;
+/// A bool of C, as the byte that it is.
+type Mark = *mut u8;
 
 // A buffer is its first place and its length; a matrix of two rows and a single result are their
 // first place alone. A call on a form takes n and the stride first.
@@ -46,6 +48,9 @@ archive! {
     vx_lasy2(Read, Read, Read, Write, Write) -> ();
     vx_schur_swap(usize, usize, Write, usize, Write, usize, usize, usize, usize, Count, Count) -> usize;
     vx_reorder_schur(usize, usize, Write, usize, Write, usize, usize, usize, Count, Count, Count) -> usize;
+    vx_reorder_schur_stopping(
+        usize, usize, Write, usize, Write, usize, usize, usize, Mark, Count, Count, Count
+    ) -> usize;
     vx_block_values(usize, usize, Read, usize, Write, usize, Write, usize) -> usize;
     vx_standardised_values(usize, usize, Read, usize, Write, usize, Write, usize) -> usize;
     vx_evd_from_real_schur(usize, usize, Read, usize, Write, usize) -> usize;

@@ -1,5 +1,5 @@
-//! Each call of document 01: turned away by refuse.rs, or run by the Rust in taken.rs. With a stride,
-//! the same on the corners of the buffers.
+//! Each call of document 01: turned away by refuse.rs, or run by the Rust in taken.rs; the move that
+//! stops by stopping.rs. With a stride, the same on the corners of the buffers.
 
 use crate::arith;
 use crate::note::{self, Notes};
@@ -7,6 +7,7 @@ use crate::record::{Record, Value};
 use crate::refuse::{self, MOST_ROWS, Passed};
 use crate::sheet;
 use crate::shim::*;
+use crate::stopping;
 use crate::stride;
 use crate::taken::jacobi::JacobiRotation;
 use crate::taken::{eigen, evd, householder, leaves, schur_swap};
@@ -20,6 +21,7 @@ pub const STANDARDISED: &[&str] = &["a", "b", "c", "d", "s1re", "s1im", "s2re", 
 pub const SOLUTION: &[&str] = &["x00", "x10", "x01", "x11", "scale"];
 pub const EXCHANGED: &[&str] = &["swaps", "declined"];
 pub const MOVED: &[&str] = &["landed", "swaps", "declined"];
+pub const STOPPED: &[&str] = &["stopped", "here", "swaps", "declined"];
 
 /// The plain branch of the solvers is taken below this many rows: always.
 const PARAMS: EvdFromSchurParams = EvdFromSchurParams { recursion_threshold: 65 };
@@ -61,6 +63,7 @@ fn run(case: &Record) -> Record {
         "lasy2" => solve(case),
         "schur_swap" => exchange(case),
         "reorder_schur" => reorder(case),
+        "reorder_schur_stopping" => reorder_stopping(case),
         "block_values" => values(case, as_they_stand),
         "standardised_values" => values(case, standardised),
         "evd_from_real_schur" => vectors(case),
@@ -147,6 +150,18 @@ fn reorder(case: &Record) -> Record {
         results = [notes.here, notes.swaps, notes.declined];
     }
     counts(numbered(case, passed), MOVED, &results).list("t", t).list("u", u)
+}
+
+fn reorder_stopping(case: &Record) -> Record {
+    let (n, from, to) = (case.n("n"), case.n("from"), case.n("to"));
+    let (mut t, mut u) = (case.l("t").to_vec(), case.l("u").to_vec());
+    let passed = refuse::reorder(MOST_ROWS, n, &t, &u, from, to);
+    let mut results = [0; 4];
+    if passed.is_ok() {
+        let m = stopping::reorder(n, &mut t, &mut u, from, to);
+        results = [usize::from(m.stopped), m.here, m.swaps, m.declined];
+    }
+    counts(numbered(case, passed), STOPPED, &results).list("t", t).list("u", u)
 }
 
 /// The values of a form's blocks, by a reading of n rows.

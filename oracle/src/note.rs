@@ -1,5 +1,5 @@
 //! What a run of the Rust leaves behind beside its buffers: swaps, declines, splits, the row, how
-//! 2-blocks were read.
+//! 2-blocks were read, what a move that stops met.
 
 use std::cell::Cell;
 
@@ -17,11 +17,25 @@ pub struct Notes {
     pub real: usize,
     pub complex: usize,
     pub odd: usize,
+    /// The sizes of the exchange that a move stopped at, and which of its step it was, from 1.
+    pub stop: Option<(usize, usize, usize)>,
+    /// 2-blocks that standardising left with b zero and c not, and that were then exchanged.
+    pub zero_b: usize,
 }
 
 thread_local! {
     static NOTES: Cell<Notes> = const {
-        Cell::new(Notes { swaps: 0, declined: 0, splits: 0, here: 0, real: 0, complex: 0, odd: 0 })
+        Cell::new(Notes {
+            swaps: 0,
+            declined: 0,
+            splits: 0,
+            here: 0,
+            real: 0,
+            complex: 0,
+            odd: 0,
+            stop: None,
+            zero_b: 0,
+        })
     };
 }
 
@@ -57,6 +71,16 @@ pub fn split() {
 
 pub fn here(row: usize) {
     change(|n| n.here = row);
+}
+
+/// A failed test of an exchange of these sizes, which is a decline too.
+pub fn stop(n1: usize, n2: usize, of_step: usize) {
+    decline();
+    change(|n| n.stop = Some((n1, n2, of_step)));
+}
+
+pub fn zero_b() {
+    change(|n| n.zero_b += 1);
 }
 
 /// A 2-block's copy standardised, by its c.

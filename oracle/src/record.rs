@@ -30,6 +30,16 @@ const fn call(name: &'static str, given: &'static [(&'static str, Kind)]) -> Cal
 
 const X: &[(&str, Kind)] = &[("x", Kind::Float)];
 const PQ: &[(&str, Kind)] = &[("p", Kind::Float), ("q", Kind::Float)];
+const MOVE: &[(&str, Kind)] =
+    &[("n", Kind::Num), ("t", Kind::List), ("u", Kind::List), ("from", Kind::Num), ("to", Kind::Num)];
+const MOVE_LD: &[(&str, Kind)] = &[
+    ("n", Kind::Num),
+    ("ld", Kind::Num),
+    ("t", Kind::List),
+    ("u", Kind::List),
+    ("from", Kind::Num),
+    ("to", Kind::Num),
+];
 const VALUES: &[(&str, Kind)] = &[("n", Kind::Num), ("t", Kind::List), ("re", Kind::List), ("im", Kind::List)];
 const VALUES_LD: &[(&str, Kind)] =
     &[("n", Kind::Num), ("ld", Kind::Num), ("t", Kind::List), ("re", Kind::List), ("im", Kind::List)];
@@ -63,10 +73,8 @@ pub const CALLS: &[Call] = &[
             ("n2", Kind::Num),
         ],
     ),
-    call(
-        "reorder_schur",
-        &[("n", Kind::Num), ("t", Kind::List), ("u", Kind::List), ("from", Kind::Num), ("to", Kind::Num)],
-    ),
+    call("reorder_schur", MOVE),
+    call("reorder_schur_stopping", MOVE),
     call("block_values", VALUES),
     call("standardised_values", VALUES),
     call("evd_from_real_schur", &[("n", Kind::Num), ("t", Kind::List), ("v", Kind::List)]),
@@ -84,17 +92,8 @@ pub const CALLS: &[Call] = &[
             ("n2", Kind::Num),
         ],
     ),
-    call(
-        "reorder_schur_ld",
-        &[
-            ("n", Kind::Num),
-            ("ld", Kind::Num),
-            ("t", Kind::List),
-            ("u", Kind::List),
-            ("from", Kind::Num),
-            ("to", Kind::Num),
-        ],
-    ),
+    call("reorder_schur_ld", MOVE_LD),
+    call("reorder_schur_stopping_ld", MOVE_LD),
     call("block_values_ld", VALUES_LD),
     call("standardised_values_ld", VALUES_LD),
     call("evd_from_real_schur_ld", &[("n", Kind::Num), ("ld", Kind::Num), ("t", Kind::List), ("v", Kind::List)]),

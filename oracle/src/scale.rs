@@ -12,8 +12,14 @@ pub const SEED: u64 = 20_261_116;
 const SMALL: u64 = 10_000_000;
 const LARGE: u64 = 100_000;
 const LARGE_FORMS: Sizes = Sizes { least: 33, most: 64 };
-const WITH_A_FORM: [&str; 5] =
-    ["schur_swap", "reorder_schur", "block_values", "standardised_values", "evd_from_real_schur"];
+const WITH_A_FORM: [&str; 6] = [
+    "schur_swap",
+    "reorder_schur",
+    "reorder_schur_stopping",
+    "block_values",
+    "standardised_values",
+    "evd_from_real_schur",
+];
 const STRIDED: u64 = 1_000_000;
 const LARGER_FORMS: Sizes = Sizes { least: 13, most: 64 };
 

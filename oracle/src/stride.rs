@@ -7,9 +7,10 @@ use crate::record::{Record, Value};
 pub const MOST: usize = 128;
 
 /// The calls that take a stride beside n, each with the call that it is on the corners.
-pub const CALLS: [(&str, &str); 6] = [
+pub const CALLS: [(&str, &str); 7] = [
     ("schur_swap_ld", "schur_swap"),
     ("reorder_schur_ld", "reorder_schur"),
+    ("reorder_schur_stopping_ld", "reorder_schur_stopping"),
     ("block_values_ld", "block_values"),
     ("standardised_values_ld", "standardised_values"),
     ("evd_from_real_schur_ld", "evd_from_real_schur"),

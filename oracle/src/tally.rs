@@ -1,6 +1,6 @@
 //! Counts over many cases: how many, how many of each answer, how many split or declined, of
 //! exchanges how many counted so many swaps, which strides and numbers beyond the corners there were,
-//! which tails of reflections, and how 2-blocks were read.
+//! which tails of reflections, how 2-blocks were read, and where moves stopped.
 
 use crate::generate::tails;
 use crate::note::Notes;
@@ -18,7 +18,7 @@ pub struct Tally {
     /// Accepted exchanges by their swaps.
     pub exchanges: BTreeMap<usize, u64>,
     /// Cases with a stride by what `stride::classes` tells, of reflections what `tails::classes` does,
-    /// of standardised values what `pairs` does.
+    /// of standardised values what `pairs` does, of moves that stop what `met` does.
     pub classes: BTreeMap<&'static str, u64>,
 }
 
@@ -38,7 +38,8 @@ impl Tally {
             call if stride::taken_by(call) => stride::classes(case, answer),
             _ => Vec::new(),
         };
-        classes.into_iter().chain(pairs(notes)).for_each(|class| *self.classes.entry(class).or_default() += 1);
+        let met = pairs(notes).chain(met(answer, notes));
+        classes.into_iter().chain(met).for_each(|class| *self.classes.entry(class).or_default() += 1);
     }
 }
 
@@ -46,6 +47,27 @@ impl Tally {
 fn pairs(notes: &Notes) -> impl Iterator<Item = &'static str> {
     let read = [(notes.real, "a real pair"), (notes.complex, "a complex pair"), (notes.odd, "a pair with NaN c")];
     read.into_iter().filter(|(count, _)| *count > 0).map(|(_, class)| class)
+}
+
+/// What an accepted move that stops met: where it stopped, or that it came to its end.
+fn met(answer: &Record, notes: &Notes) -> impl Iterator<Item = &'static str> {
+    let accepted = stride::base_of(answer.call) == "reorder_schur_stopping" && answer.n("answer") == 0;
+    let end = match notes.stop {
+        Some((1, 2, _)) => "stopped at 1-2",
+        Some((2, 1, _)) => "stopped at 2-1",
+        Some(_) => "stopped at 2-2",
+        None if notes.swaps > 0 => "moved",
+        None => "nothing to move",
+    };
+    let late = matches!(notes.stop, Some((_, _, 2..)));
+    let earlier = notes.stop.is_some() && notes.swaps > 1;
+    let met = [
+        (true, end),
+        (earlier, "stopped after other exchanges"),
+        (late, "stopped in a step"),
+        (notes.zero_b > 0, "a zero b exchanged"),
+    ];
+    met.into_iter().filter(move |(found, _)| accepted && *found).map(|(_, class)| class)
 }
 
 /// The answer's number; for a sheet, the one it prints.

@@ -41,6 +41,8 @@ const STORED: &[(&str, u64)] = &[
     ("column_ld", 60),
     ("standardised_values", 60),
     ("standardised_values_ld", 60),
+    ("reorder_schur_stopping", 60),
+    ("reorder_schur_stopping_ld", 60),
 ];
 
 const SEED: u64 = 1;

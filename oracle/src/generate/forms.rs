@@ -3,6 +3,7 @@
 use super::floats::*;
 use super::rng::Rng;
 use super::small;
+use crate::stopping;
 
 /// How the numbers of one form are drawn.
 struct Style {
@@ -172,6 +173,155 @@ fn unstandardised(rng: &mut Rng) -> [f64; 4] {
         }
         _ => small::block(rng),
     }
+}
+
+/// An accepted form of n rows as `form` draws it, or one drawn so that a move meets a test that fails,
+/// or a rotated block that ends with b zero.
+pub fn to_stop(rng: &mut Rng, n: usize) -> Vec<f64> {
+    match rng.below(8) {
+        0..=2 => loud(rng, n),
+        3 if n >= 5 => parting(rng, n),
+        4 => nearly_equal(rng, n),
+        5 => doubled(rng, n),
+        _ => form(rng, n),
+    }
+}
+
+/// The first rows of the 2-blocks of a form of n rows.
+fn pairs(rng: &mut Rng, n: usize) -> Vec<usize> {
+    let share = rng.pick(&[3, 6, 9]);
+    let (mut rows, mut i) = (Vec::new(), 0);
+    while i + 1 < n {
+        let pair = rng.below(10) < share;
+        if pair {
+            rows.push(i);
+        }
+        i += if pair { 2 } else { 1 };
+    }
+    rows
+}
+
+/// Numbers near 2^1000, and among those beside the blocks some near overflow: the sums of a reflection
+/// overflow there, so that windows of three rows fail, or come out with NaNs. Many of the large ones
+/// stand where two blocks meet, which is where the first reflection begins; before a 2-block it takes a
+/// large lower entry in that block too, since twice the larger number must not overflow. A few forms
+/// have NaNs and infinities as well.
+fn loud(rng: &mut Rng, n: usize) -> Vec<f64> {
+    let pairs = pairs(rng, n);
+    let (place, row, odd) = (rng.below(4), rng.below(n), rng.one_in(6));
+    let number = |rng: &mut Rng, low: i64, high: i64| {
+        let x = scaled(rng, low, high);
+        if odd && rng.one_in(12) { any(rng) } else { signed(rng, x) }
+    };
+    let mut t = vec![0.0; n * n];
+    for j in 0..n {
+        for i in 0..=j {
+            let large = match place {
+                0 => i + 1 == j && rng.one_in(2),
+                1 => i == row && i != j,
+                2 => i + 1 == j && rng.one_in(6),
+                _ => i != j && rng.one_in(8),
+            };
+            t[i + n * j] = if large { number(rng, 1022, 1023) } else { number(rng, 972, 1005) };
+        }
+    }
+    for i in pairs {
+        let (a, b) = (t[i + n * i], number(rng, 980, 1005));
+        let (c, d) = (number(rng, 980, 1005), t[i + 1 + n * (i + 1)]);
+        let block = match rng.below(3) {
+            0 => [a, b, set(-b.signum() * c.abs()), a],
+            1 => [a, b, set(b.signum() * c.abs()), d],
+            _ => [a, b, set(c), d],
+        };
+        put(n, &mut t, i, block);
+        if i > 0 && rng.one_in(2) {
+            let (c, beside) = (close_to_overflow(rng), close_to_overflow(rng));
+            t[i + 1 + n * i] = c.copysign(t[i + 1 + n * i]);
+            t[i - 1 + n * i] = signed(rng, beside);
+        }
+        if i + 2 < n && rng.one_in(2) {
+            let beside = scaled(rng, 1023, 1023);
+            t[i + 1 + n * (i + 2)] = signed(rng, beside);
+        }
+    }
+    t
+}
+
+/// Below 2^1023 by an eighth at most.
+fn close_to_overflow(rng: &mut Rng) -> f64 {
+    power(1023) - scaled(rng, 1000, 1019)
+}
+
+/// A 2-block with two real values at the upper or the lower end, next to it a row, and next to that
+/// another 2-block. The first comes apart as it passes the row. The numbers where the two 2-blocks meet
+/// are such that then the row that comes to the other block last has large ones there, and the row
+/// before it has not: it is the second exchange of the step that may fail.
+fn parting(rng: &mut Rng, n: usize) -> Vec<f64> {
+    let number = |rng: &mut Rng| {
+        let x = scaled(rng, 985, 1000);
+        signed(rng, x)
+    };
+    let mut t = vec![0.0; n * n];
+    let down = rng.one_in(2);
+    // The three rows that are exchanged first, the moved block in them, and the other block. These rows
+    // are not large: where a sum of squares overflows, standardising has no rotation.
+    let (rows, moved, other) = if down { (0, 0, 3) } else { (n - 3, n - 2, n - 5) };
+    for j in 0..n {
+        let among = |i: usize| i >= rows && (rows..rows + 3).contains(&j);
+        (0..=j).for_each(|i| t[i + n * j] = if among(i) { ordinary(rng) } else { number(rng) });
+    }
+    let (a, b, d) = (ordinary(rng), ordinary(rng), ordinary(rng));
+    put(n, &mut t, moved, [a, b, ordinary(rng).copysign(b), d]);
+    let (a, b, c) = (number(rng), close_to_overflow(rng), number(rng));
+    put(n, &mut t, other, [a, b.copysign(-c), c, a]);
+    let mut window: Vec<f64> = (0..9).map(|k| t[rows + k % 3 + n * (rows + k / 3)]).collect();
+    let mut turn: Vec<f64> = (0..9).map(|k| if k % 4 == 0 { 1.0 } else { 0.0 }).collect();
+    stopping::reorder(3, &mut window, &mut turn, moved - rows, if down { 2 } else { 0 });
+    for place in [other, other + 1] {
+        let large = scaled(rng, 1022, 1022);
+        let large = signed(rng, large);
+        for k in 0..3 {
+            let (i, j) = if down { (rows + k, place) } else { (place, rows + k) };
+            t[i + n * j] = large * turn[k + 3];
+        }
+    }
+    t
+}
+
+/// 2-blocks that are one and the same up to some bits, with large numbers beside them: the small solve
+/// is close to singular.
+fn nearly_equal(rng: &mut Rng, n: usize) -> Vec<f64> {
+    let (pairs, k) = (pairs(rng, n), rng.between(0, 40));
+    let (a, b, c) = (ordinary(rng), ordinary(rng), ordinary(rng).abs());
+    let mut t = vec![0.0; n * n];
+    for j in 0..n {
+        (0..j).for_each(|i| t[i + n * j] = ordinary(rng) * power(k));
+        t[j + n * j] = near(rng, a);
+    }
+    for i in pairs {
+        let off = 1.0 + power(rng.between(-52, -20));
+        put(n, &mut t, i, [a * off, near(rng, b), near(rng, -b.signum() * c), a * off]);
+    }
+    t
+}
+
+/// 2-blocks of whole numbers with a double value, single rows with one of their diagonal numbers, and
+/// mostly zeros beside them: exchanges are exact, and some rotated blocks end with b zero.
+fn doubled(rng: &mut Rng, n: usize) -> Vec<f64> {
+    let pairs = pairs(rng, n);
+    let (middle, half, scale) = (rng.between(-6, 6), rng.between(1, 6), power(rng.between(-40, 40)));
+    let full = rng.one_in(4);
+    let number = |x: i64| x as f64 * scale;
+    let mut t = vec![0.0; n * n];
+    for j in 0..n {
+        (0..j).for_each(|i| t[i + n * j] = if full && rng.one_in(3) { number(rng.between(-2, 2)) } else { 0.0 });
+        t[j + n * j] = number(rng.pick(&[middle + half, middle - half, middle, 0]));
+    }
+    for i in pairs {
+        let (half, b) = (signed(rng, half as f64) as i64, signed(rng, half as f64) as i64);
+        put(n, &mut t, i, [middle + half, b, -b, middle - half].map(number));
+    }
+    t
 }
 
 /// A factor: none, the unit matrix, or any numbers.

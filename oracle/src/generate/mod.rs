@@ -12,7 +12,7 @@ mod text;
 
 use crate::record::{Record, Value};
 use crate::stride;
-use forms::{begins_pair, buffer, factor, form, starts, to_standardise};
+use forms::{begins_pair, buffer, factor, form, starts, to_standardise, to_stop};
 use rng::Rng;
 
 /// The numbers of rows to draw from, both included.
@@ -81,6 +81,7 @@ fn on_form(rng: &mut Rng, call: &'static str, sizes: Sizes) -> Option<Record> {
     Some(match call {
         "schur_swap" => exchange(rng, sizes),
         "reorder_schur" => reorder(rng, sizes),
+        "reorder_schur_stopping" => reorder_stopping(rng, sizes),
         "block_values" => values(rng, call, sizes, form),
         "standardised_values" => values(rng, call, sizes, to_standardise),
         "evd_from_real_schur" => {
@@ -113,6 +114,19 @@ fn reorder(rng: &mut Rng, sizes: Sizes) -> Record {
     let t = form(rng, n);
     let u = factor(rng, n);
     Record::new("reorder_schur").num("n", n).list("t", t).list("u", u).num("from", rng.below(n)).num("to", rng.below(n))
+}
+
+/// More rows than otherwise, and often from end to end.
+fn reorder_stopping(rng: &mut Rng, sizes: Sizes) -> Record {
+    let n = rows(rng, sizes).max(rows(rng, sizes));
+    let t = to_stop(rng, n);
+    let u = factor(rng, n);
+    let (from, to) = match rng.below(4) {
+        0 => (0, n - 1),
+        1 => (n - 1, 0),
+        _ => (rng.below(n), rng.below(n)),
+    };
+    Record::new("reorder_schur_stopping").num("n", n).list("t", t).list("u", u).num("from", from).num("to", to)
 }
 
 /// Mostly two neighbouring blocks, or two rows taken for one block; else any sizes anywhere.
