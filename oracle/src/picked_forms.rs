@@ -6,6 +6,7 @@ use crate::generate::{self, Sizes};
 use crate::note::Notes;
 use crate::picked::ODD;
 use crate::picked_blocks;
+use crate::picked_stops;
 use crate::picked_strides;
 use crate::record::{Record, Value};
 use crate::stride;
@@ -28,6 +29,7 @@ pub const OUTSIDE: usize = 70;
 pub fn picked(call: &'static str) -> Vec<Record> {
     match call {
         "reorder_schur" => moves(),
+        "reorder_schur_stopping" => picked_stops::picked(),
         "schur_swap" => exchanges(),
         "block_values" => values(call, kinds()),
         "standardised_values" => values(call, picked_blocks::forms()),
@@ -85,7 +87,7 @@ pub fn turns(n: usize) -> Vec<usize> {
 }
 
 /// A form of one row too many, to which lines 5 and 6 apply as well.
-fn overgrown() -> Vec<f64> {
+pub fn overgrown() -> Vec<f64> {
     let mut t = form(&turns(TOO_MANY));
     (t[1], t[2 + TOO_MANY], t[TOO_MANY - 1]) = (1.0, 1.0, 1.0);
     t
@@ -93,7 +95,7 @@ fn overgrown() -> Vec<f64> {
 
 /// The form with NaN and the infinities in each place down to the subdiagonal; some of these are
 /// turned away.
-fn odd_forms(sizes: &[usize]) -> Vec<Vec<f64>> {
+pub fn odd_forms(sizes: &[usize]) -> Vec<Vec<f64>> {
     let base = form(sizes);
     let n: usize = sizes.iter().sum();
     let places = (0..n).flat_map(|j| (0..(j + 2).min(n)).map(move |i| i + n * j));
@@ -165,7 +167,7 @@ pub fn spoilt(case: Record, line: usize) -> Record {
         (4, _) => list_set(case, "u", |u| u.truncate(3)),
         (5, _) => list_set(case, "t", |t| t[3] = -1.0),
         (6, _) => list_set(case, "t", |t| (t[1], t[2 + ld]) = (-0.5, 3.0)),
-        (7, "reorder_schur") => case.num_set("to", OUTSIDE),
+        (7, "reorder_schur" | "reorder_schur_stopping") => case.num_set("to", OUTSIDE),
         (7, "column") => case.num_set("col", OUTSIDE),
         (7, _) => case.num_set("j0", OUTSIDE),
         (8, _) => case.num_set("n1", 3),
@@ -466,6 +468,7 @@ mod tests {
     fn refusals_are_in_order() {
         let bases = [
             (a_move(form(&[2, 1, 1]), unit(4), 3, 0), vec![2, 3, 4, 5, 6, 7]),
+            (picked_stops::base(), vec![2, 3, 4, 5, 6, 7]),
             (an_exchange(form(&[2, 1, 1]), unit(4), 0, 2, 1), vec![2, 3, 4, 5, 6, 7, 8, 9, 10]),
             (of_form("block_values", form(&[2, 1, 1])), vec![2, 3, 4, 5, 6]),
             (of_form("standardised_values", form(&[2, 1, 1])), vec![2, 3, 4, 5, 6]),

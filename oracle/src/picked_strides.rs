@@ -4,6 +4,7 @@
 use crate::note::Notes;
 use crate::picked_blocks;
 use crate::picked_forms::*;
+use crate::picked_stops::{self, a_stopping_move};
 use crate::record::{Record, Value};
 use crate::stride::{self, MOST, SQUARES};
 
@@ -29,6 +30,7 @@ const LD: usize = 5;
 pub fn picked(call: &'static str) -> Vec<Record> {
     match call {
         "reorder_schur_ld" => moves(),
+        "reorder_schur_stopping_ld" => stopping_moves(),
         "schur_swap_ld" => exchanges(),
         "block_values_ld" => on_forms("block_values"),
         "standardised_values_ld" => standardised_values(),
@@ -152,6 +154,28 @@ fn moves() -> Vec<Record> {
     cases
 }
 
+/// Windows and moves that stop, and what a move has otherwise.
+fn stopping_moves() -> Vec<Record> {
+    let mut cases = in_strides(&a_stopping_move(form(&[1]), vec![3.0], 0, 0));
+    cases.extend(in_strides(&picked_stops::at_windows()[0]));
+    cases.extend(picked_stops::at_windows().iter().map(|case| spread(case, 5)));
+    cases.extend(picked_stops::at_the_bound().iter().take(6).map(|case| spread(case, 6)));
+    cases.extend(picked_stops::stops().iter().filter(|case| case.n("n") < 7).map(|case| spread(case, case.n("n") + 1)));
+    for sizes in [&[2, 1][..], &[1, 2]] {
+        cases.extend(fills(&a_stopping_move(form(sizes), content(3, 9), 0, 2), 5));
+    }
+    cases.extend(fills(&picked_stops::at_windows()[0], 4));
+    let base = picked_stops::base();
+    cases.extend(refused(&base, &[2, 17, 3, 4, 5, 6, 7]));
+    for position in [3, 4, LD, usize::MAX] {
+        cases.push(spread(&base, LD).num_set("from", position));
+        cases.push(spread(&base, LD).num_set("to", position));
+    }
+    cases.push(spread(&a_stopping_move(form(&turns(33)), Vec::new(), 32, 0), 34));
+    cases.push(spread(&a_stopping_move(form(&turns(64)), unit(64), 63, 0), MOST));
+    cases
+}
+
 // ---- exchanges
 
 fn exchanges() -> Vec<Record> {
@@ -234,6 +258,7 @@ mod tests {
         let form = [0, 2, 3, 4, 5, 6, 17];
         let calls = [
             ("reorder_schur_ld", &[7][..]),
+            ("reorder_schur_stopping_ld", &[7]),
             ("schur_swap_ld", &[7, 8, 9, 10]),
             ("block_values_ld", &[]),
             ("standardised_values_ld", &[]),

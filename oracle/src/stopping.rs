@@ -229,7 +229,7 @@ fn tried(n1: usize, window: &[f64; 9]) -> [f64; 9] {
 
 /// What dlaexc tests of a window of three rows: the two entries that are to become zero, and how far
 /// the single row's diagonal number has changed. Then 01's threshold of the window.
-fn tested(n1: usize, window: &[f64; 9]) -> ([f64; 3], f64) {
+pub fn tested(n1: usize, window: &[f64; 9]) -> ([f64; 3], f64) {
     let w = tried(n1, window);
     let numbers = if n1 == 1 { [w[2], w[5], w[8] - window[0]] } else { [w[1], w[2], w[0] - window[8]] };
     let dnorm = window.iter().fold(0.0, |most, x| fmax(most, abs(*x)));
@@ -239,4 +239,151 @@ fn tested(n1: usize, window: &[f64; 9]) -> ([f64; 3], f64) {
 fn test_fails(n1: usize, window: &[f64; 9]) -> bool {
     let ([p, q, change], threshold) = tested(n1, window);
     fmax(fmax(p, q), change) > threshold
+}
+
+#[cfg(test)]
+mod tests {
+    use super::*;
+    use crate::calls;
+    use crate::generate::{self, USUAL};
+    use crate::note::Notes;
+    use crate::record::{Record, settle};
+
+    const CALL: &str = "reorder_schur_stopping";
+
+    fn bits(list: &[f64]) -> Vec<u64> {
+        list.iter().map(|x| settle(*x).to_bits()).collect()
+    }
+
+    /// Accepted cases with their answers and notes.
+    fn accepted(count: u64, mut each: impl FnMut(&Record, &Record, &Notes)) {
+        for index in 0..count {
+            let case = generate::case(CALL, 5, index, USUAL);
+            let (answer, notes) = calls::answer(&case);
+            if answer.n("answer") == 0 {
+                each(&case, &answer, &notes);
+            }
+        }
+    }
+
+    /// The Rust's own move on the same form and factor.
+    fn the_old(case: &Record) -> (Record, Notes) {
+        calls::answer(&Record { call: "reorder_schur", fields: case.fields.clone() })
+    }
+
+    fn same_buffers(case: &Record, x: &Record, y: &Record) {
+        ["t", "u"].iter().for_each(|key| assert_eq!(bits(x.l(key)), bits(y.l(key)), "{case}"));
+    }
+
+    /// A tried window, with the zeros set, is what the swap leaves of the window: in every window of
+    /// three rows of the drawn forms.
+    #[test]
+    fn windows_are_tried_as_the_swap_works() {
+        let mut seen = [0; 3];
+        accepted(6000, |case, _, _| {
+            let (n, t) = (case.n("n"), case.l("t"));
+            for j in 0..n.saturating_sub(2) {
+                let mut window = [0.0; 9];
+                (0..9).for_each(|k| window[k] = t[j + k % 3 + n * (j + k / 3)]);
+                let (n1, zeros) = match (window[1] != 0.0, window[5] != 0.0) {
+                    (false, true) => (1, [2, 5]),
+                    (true, false) => (2, [1, 2]),
+                    _ => continue,
+                };
+                let mut tried = tried(n1, &window);
+                zeros.iter().for_each(|k| tried[*k] = 0.0);
+                let swap: Swap = if n1 == 1 { leaves::schur_swap_12 } else { leaves::schur_swap_21 };
+                swap(MatMut::from_slice(&mut window, 3, 3), None, 0);
+                assert_eq!(bits(&tried), bits(&window), "{case}");
+                seen[n1] += 1;
+            }
+        });
+        assert!(seen[1] > 1000 && seen[2] > 1000, "{seen:?}");
+    }
+
+    /// Stopped exactly when a test has failed, and then exactly one, the last; that no exchange has two
+    /// rows with a zero inside is asserted in every one. Stops of every size occur, in steps of parted
+    /// blocks too, and zeros for b.
+    #[test]
+    fn stops_at_the_first_that_fails() {
+        let mut tally = crate::tally::Tally::default();
+        accepted(20_000, |case, answer, notes| {
+            assert_eq!(answer.n("stopped"), answer.n("declined"), "{case}");
+            assert_eq!(answer.n("stopped") == 1, notes.stop.is_some(), "{case}");
+            assert_eq!((answer.n("swaps"), answer.n("declined")), (notes.swaps, notes.declined), "{case}");
+            tally.add(case, answer, notes);
+        });
+        for class in ["stopped at 1-2", "stopped at 2-1", "stopped at 2-2"] {
+            assert!(tally.classes[class] > tally.answers[&0] / 50, "{tally}");
+        }
+        for class in ["stopped after other exchanges", "stopped in a step", "a zero b exchanged"] {
+            assert!(tally.classes[class] > 50, "{tally}");
+        }
+    }
+
+    /// On triangular forms it is the Rust's move; so it is wherever no test fails and no b is exchanged.
+    #[test]
+    fn otherwise_it_is_the_old_move() {
+        let (mut triangular, mut others) = (0, 0);
+        accepted(20_000, |case, answer, notes| {
+            let (n, t) = (case.n("n"), case.l("t"));
+            let single = (1..n).all(|i| t[i + n * (i - 1)] == 0.0);
+            if notes.stop.is_some() || notes.zero_b > 0 {
+                assert!(!single, "{case}");
+                return;
+            }
+            let (old, _) = the_old(case);
+            same_buffers(case, answer, &old);
+            let counts = [answer.n("here"), answer.n("swaps"), answer.n("declined"), answer.n("stopped")];
+            assert_eq!(counts, [old.n("landed"), old.n("swaps"), old.n("declined"), 0], "{case}");
+            (triangular, others) = (triangular + usize::from(single), others + usize::from(!single));
+        });
+        assert!(triangular > 1000 && others > 5000, "{triangular} {others}");
+    }
+
+    /// What a stopped move leaves: the form and the factor of the exchanges before, which the same move
+    /// makes on its way to `here` where it stops at a step's first exchange.
+    #[test]
+    fn a_stop_leaves_what_was_there() {
+        let mut seen = 0;
+        accepted(20_000, |case, answer, notes| {
+            if notes.stop.map(|stop| stop.2) != Some(1) || notes.splits > 0 {
+                return;
+            }
+            let here = answer.n("here");
+            let (before, _) = calls::answer(&case.clone().num_set("to", here));
+            let to_here = before.n("stopped") == 0 && before.n("here") == here;
+            if to_here && before.n("swaps") + 1 == answer.n("swaps") {
+                same_buffers(case, answer, &before);
+                seen += 1;
+            }
+        });
+        assert!(seen > 500, "{seen}");
+    }
+
+    /// The factor has no part in it.
+    #[test]
+    fn the_factor_has_no_part() {
+        accepted(3000, |case, answer, _| {
+            let mut without = case.clone();
+            without.fields.iter_mut().filter(|field| field.0 == "u").for_each(|field| {
+                field.1 = crate::record::Value::List(Vec::new());
+            });
+            let (other, _) = calls::answer(&without);
+            assert_eq!(bits(answer.l("t")), bits(other.l("t")), "{case}");
+            calls::STOPPED.iter().for_each(|key| assert_eq!(answer.n(key), other.n(key), "{case}"));
+        });
+    }
+
+    /// dlanv2's exchange: the block (2, -1), (1, 0) is rotated to (1, 0), (2, 1), which becomes (1, -2),
+    /// (0, 1), and its rotation is turned by a right angle.
+    #[test]
+    fn a_zero_b_is_exchanged() {
+        let ((a, b, c, d), _, _, (cs, sn)) = leaves::lahqr_schur22(2.0, -1.0, 1.0, 0.0);
+        assert_eq!([a, b, c, d], [1.0, 0.0, 2.0, 1.0]);
+        let (mut t, mut u) = ([2.0, 1.0, -1.0, 0.0], [1.0, 0.0, 0.0, 1.0]);
+        Move { n: 2, t: &mut t, u: &mut u, here: 0, swaps: 0, declined: 0, before: 0 }.standardise(0);
+        assert_eq!(bits(&t), bits(&[1.0, 0.0, -2.0, 1.0]));
+        assert_eq!(bits(&u), bits(&[-sn, cs, -cs, -sn]));
+    }
 }

@@ -178,11 +178,12 @@ fn unstandardised(rng: &mut Rng) -> [f64; 4] {
 /// An accepted form of n rows as `form` draws it, or one drawn so that a move meets a test that fails,
 /// or a rotated block that ends with b zero.
 pub fn to_stop(rng: &mut Rng, n: usize) -> Vec<f64> {
-    match rng.below(8) {
+    match rng.below(9) {
         0..=2 => loud(rng, n),
         3 if n >= 5 => parting(rng, n),
-        4 => nearly_equal(rng, n),
-        5 => doubled(rng, n),
+        4 if n >= 4 => ending(rng, n),
+        5 => nearly_equal(rng, n),
+        6 => doubled(rng, n),
         _ => form(rng, n),
     }
 }
@@ -284,6 +285,29 @@ fn parting(rng: &mut Rng, n: usize) -> Vec<f64> {
             let (i, j) = if down { (rows + k, place) } else { (place, rows + k) };
             t[i + n * j] = large * turn[k + 3];
         }
+    }
+    t
+}
+
+/// A 2-block at the upper or the lower end, and at the other end a row with large numbers on the
+/// diagonal and where it meets the block, which passes all that is between before it may fail.
+fn ending(rng: &mut Rng, n: usize) -> Vec<f64> {
+    let mut t = vec![0.0; n * n];
+    for j in 0..n {
+        (0..=j).for_each(|i| t[i + n * j] = ordinary(rng));
+    }
+    let down = rng.one_in(2);
+    let (moved, last) = if down { (0, n - 1) } else { (n - 2, 0) };
+    for i in pairs(rng, n - 3).into_iter().map(|i| i + if down { 2 } else { 1 }).chain([moved]) {
+        let (a, b, c) = (ordinary(rng), ordinary(rng), ordinary(rng));
+        put(n, &mut t, i, [a, b, c.copysign(-b), a]);
+    }
+    let diagonal = close_to_overflow(rng);
+    t[last + n * last] = signed(rng, diagonal);
+    for k in [moved, moved + 1] {
+        let (i, j) = (k.min(last), k.max(last));
+        let large = scaled(rng, 1021, 1022);
+        t[i + n * j] = signed(rng, large);
     }
     t
 }

@@ -193,9 +193,11 @@ mod tests {
         };
         assert_eq!(lines("schur_swap"), [0, 2, 3, 4, 5, 6, 7, 8, 9, 10]);
         assert_eq!(lines("reorder_schur"), [0, 2, 3, 4, 5, 6, 7]);
+        assert_eq!(lines("reorder_schur_stopping"), [0, 2, 3, 4, 5, 6, 7]);
         assert_eq!(lines("evd_from_real_schur"), [0, 2, 3, 4, 5, 6]);
         assert_eq!(lines("schur_swap_ld"), [0, 2, 3, 4, 5, 6, 7, 8, 9, 10, 17]);
         assert_eq!(lines("reorder_schur_ld"), [0, 2, 3, 4, 5, 6, 7, 17]);
+        assert_eq!(lines("reorder_schur_stopping_ld"), [0, 2, 3, 4, 5, 6, 7, 17]);
         assert_eq!(lines("evd_from_real_schur_ld"), [0, 2, 3, 4, 5, 6, 17]);
     }
 
