@@ -1,4 +1,4 @@
-// Inside (`schur`): the four swaps of neighbouring blocks, and a 2-block standardised in place.
+// Inside (`schur`, `tries`, `stopping`): the four swaps of neighbouring blocks, and a 2-block standardised in place.
 mod columns;
 pub mod kernels;
 pub mod operations;
