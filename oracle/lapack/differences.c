@@ -4,11 +4,13 @@
 //   differences                      the whole list
 //   differences exchanges COUNT SEED random moves: how often both sides make as many exchanges
 //   differences declines COUNT SEED  random exchanges of a 2-block and a row: how often LAPACK declines
+//   differences stops COUNT SEED     random moves that may stop: where each side does
 //   differences moduli COUNT SEED    random pairs: how often 01's formula and C's hypot are not the nearest
 //   differences readings COUNT SEED  random blocks, standardised: how often both readings of the rest agree
 #define _GNU_SOURCE
 #include "draws.h"
 #include "ours.h"
+#include "stops.h"
 #include <dlfcn.h>
 #include <math.h>
 #include <stdint.h>
@@ -25,6 +27,7 @@ void dlasy2_(const int *ltranl, const int *ltranr, const int *isgn, const int *n
              double *x, const int *ldx, double *xnorm, int *info);
 void dtrexc_(const char *compq, const int *n, double *t, const int *ldt, double *q, const int *ldq, int *ifst,
              int *ilst, double *work, int *info, long);
+double dlamch_(const char *cmach, long);
 void dtrevc3_(const char *side, const char *howmny, int *select, const int *n, const double *t, const int *ldt,
               double *vl, const int *ldvl, double *vr, const int *ldvr, const int *mm, int *m, double *work,
               const int *lwork, int *info, long, long);
@@ -356,6 +359,18 @@ static void sylvester(const double *tl, const double *tr, const double *b) {
 
 static char calls[4096];
 static int made, refused;
+// The last call: its sizes and the window that it was given.
+static int sizes[2];
+static double window[16];
+// Exchange by ours instead.
+static int by_ours;
+
+// One exchange is a move of the first block to the row of the second.
+static void our_exchange(int n, double *t, int j, int n1, int *info) {
+    size_t out[4];
+    ours_stopping_move(n, t, 0, j, j + n1, out);
+    *info = out[0];
+}
 
 // Stands before LAPACK's own when the program is linked, and writes the call down: row from 0, sizes.
 void dlaexc_(const int *wantq, const int *n, double *t, const int *ldt, double *q, const int *ldq, const int *j1,
@@ -364,7 +379,14 @@ void dlaexc_(const int *wantq, const int *n, double *t, const int *ldt, double *
                           const int *, const int *, double *, int *);
     if (!theirs)
         *(void **)&theirs = dlsym(RTLD_NEXT, "dlaexc_");
-    theirs(wantq, n, t, ldt, q, ldq, j1, n1, n2, work, info);
+    int nd = *n1 + *n2, j = *j1 - 1;
+    sizes[0] = *n1, sizes[1] = *n2;
+    for (int k = 0; k < nd * nd; k++)
+        window[k] = t[j + k % nd + *ldt * (j + k / nd)];
+    if (by_ours)
+        our_exchange(*n, t, j, *n1, info);
+    else
+        theirs(wantq, n, t, ldt, q, ldq, j1, n1, n2, work, info);
     size_t at = strlen(calls);
     snprintf(calls + at, sizeof calls - at, " %d:%d:%d%s", *j1 - 1, *n1, *n2, *info ? " declined" : "");
     made++;
@@ -379,22 +401,39 @@ static int lapack_move(int n, double *t, int from, int to, int *info) {
     return ilst - 1;
 }
 
-static void move(int n, const double *by_rows, int from, int to) {
+// Of the old move, or of the one that stops.
+static void moved(int stopping, int n, const double *by_rows, int from, int to) {
     double t[MOST * MOST], us[MOST * MOST], them[MOST * MOST];
     for (int i = 0; i < n; i++)
         for (int j = 0; j < n; j++)
             t[i + n * j] = by_rows[n * i + j];
     memcpy(us, t, sizeof t), memcpy(them, t, sizeof t);
-    size_t out[3];
+    size_t out[4];
     int info;
-    size_t answer = ours_move(n, us, 0, from, to, out);
+    size_t answer = stopping ? ours_stopping_move(n, us, 0, from, to, out) : ours_move(n, us, 0, from, to, out);
     int landed = lapack_move(n, them, from, to, &info);
-    printf("move from %d to %d\n", from, to);
+    printf("%s from %d to %d\n", stopping ? "move that stops," : "move", from, to);
     rows("form", n, t);
-    printf("  ours     answer %zu  landed %zu  swaps %zu  declined %zu\n", answer, out[0], out[1], out[2]);
+    if (stopping)
+        printf("  ours     answer %zu  stopped %zu  here %zu  swaps %zu  declined %zu\n", answer, out[0], out[1], out[2],
+               out[3]);
+    else
+        printf("  ours     answer %zu  landed %zu  swaps %zu  declined %zu\n", answer, out[0], out[1], out[2]);
     rows("", n, us);
     printf("  dtrexc   info %d  landed %d  exchanges%s\n", info, landed, calls);
     rows("", n, them);
+}
+
+static void move(int n, const double *by_rows, int from, int to) { moved(0, n, by_rows, from, to); }
+
+static void stopping_move(int n, const double *by_rows, int from, int to) { moved(1, n, by_rows, from, to); }
+
+// 01's constants of the threshold, and dlaexc's.
+static void thresholds(void) {
+    double eps = dlamch_("P", 1);
+    printf("threshold of a test\n");
+    named("ours", "eps least", (double[]){0x1p-52, 0x1p-1022 / 0x1p-52});
+    named("dlaexc", "eps least", (double[]){eps, dlamch_("S", 1) / eps});
 }
 
 // The diagonal 1, 2, .. at a stride, in so many numbers, those beside it 7, and the unit factor at
@@ -467,6 +506,8 @@ static void exchanges(long count) {
     printf("  more exchanges by dtrexc: %ld, fewer: %ld, at least %ld rows\n", more, fewer, least);
 }
 
+// ---- moves that stop
+
 static double sized(int most) {
     double x = (double)(int64_t)next() * 0x1p-63;
     return ldexp(x, (int)(next() % (2 * most + 1)) - most);
@@ -488,6 +529,107 @@ static void declines(long count) {
         }
         printf("%ld exchanges of a 2-block and a row, exponents to %d: %ld declined by dlaexc\n", count, most, declined);
     }
+}
+
+// A number of about 2^k.
+static double about(int k) {
+    double x = 1 + (double)(next() >> 12) * 0x1p-52;
+    return ldexp(next() % 2 ? -x : x, k);
+}
+
+enum { ORDINARY, UNBALANCED, NEARLY_EQUAL, NEAR_OVERFLOW, SORTS };
+
+static void draw_to_stop(int sort, int n, double *t) {
+    double a = about(0), b = about(0), c = about(0);
+    int k = (int)(next() % 40);
+    memset(t, 0, n * n * sizeof *t);
+    for (int j = 0; j < n; j++)
+        for (int i = 0; i <= j; i++)
+            t[i + n * j] = sort == ORDINARY        ? about((int)(next() % 8) - 4)
+                           : sort == UNBALANCED    ? about((int)(next() % 4) - 2)
+                           : sort == NEARLY_EQUAL  ? i == j ? a : about(k)
+                           : next() % 4 ? about(960 + (int)(next() % 60))
+                                        : about(1022);
+    for (int i = 0; i + 1 < n; i++)
+        if (next() % 3) {
+            int scale = sort == UNBALANCED ? 8 + (int)(next() % 37) : 0;
+            double upper = sort == NEARLY_EQUAL ? b : t[i + n * (i + 1)] * ldexp(1, scale);
+            double lower = sort == NEARLY_EQUAL ? c : sort == NEAR_OVERFLOW ? about(960 + (int)(next() % 63)) : about(-scale);
+            double off = sort == NEARLY_EQUAL ? 1 + ldexp(1, -(int)(next() % 33) - 20) : 1;
+            t[i + n * (i + 1)] = upper, t[i + 1 + n * i] = copysign(lower, -upper);
+            t[i + n * i] *= off;
+            if (sort != NEAR_OVERFLOW || next() % 2)
+                t[i + 1 + n * (i + 1)] = t[i + n * i];
+            i++;
+        }
+}
+
+// How far the two tests lie apart on the window at which one side stopped and the other did not.
+enum { PARTED, TWICE_OFF, TEN_TIMES, OVERFLOWING, FURTHER, APART };
+
+static int apart(Test us, Test them) {
+    double p = us.number / us.threshold, q = them.number / them.threshold;
+    if ((p > 1) == (q > 1))
+        return PARTED;
+    if (us.threshold > 0x1p900)
+        return OVERFLOWING;
+    double most = fmax(fmax(p, q), 1 / fmin(p, q));
+    return most < 2 ? TWICE_OFF : most < 10 ? TEN_TIMES : FURTHER;
+}
+
+static void stops(long count) {
+    static const char *sorts[SORTS] = {"ordinary", "badly scaled", "nearly equal", "near overflow"};
+    static const char *found[APART] = {"the tests agree there: the forms had come apart",
+                                       "the tests differ, both less than twice from the threshold",
+                                       "the tests differ, both less than ten times from it",
+                                       "the tests differ, where sums overflow", "the tests differ otherwise"};
+    long otherwise = 0, unlike = 0, kinds[APART] = {0};
+    printf("%ld random moves of 3 to 7 rows of each sort: where they stop\n", count);
+    for (int sort = 0; sort < SORTS; sort++) {
+        long at_one = 0, at_two = 0, ours = 0, theirs = 0, neither = 0, by_size[5] = {0};
+        for (long k = 0; k < count; k++) {
+            double t[49], us[49], through[49], them[49], failed[16];
+            char our_calls[sizeof calls];
+            size_t out[4];
+            int n = 3 + next() % 5, from = next() % n, to = next() % n, info, their_info;
+            draw_to_stop(sort, n, t);
+            memcpy(us, t, sizeof t), memcpy(through, t, sizeof t), memcpy(them, t, sizeof t);
+            if (ours_stopping_move(n, us, 0, from, to, out))
+                exit(2);
+            by_ours = 1;
+            int here = lapack_move(n, through, from, to, &info), n1 = sizes[0], n2 = sizes[1], our_made = made;
+            by_ours = 0;
+            memcpy(failed, window, sizeof window);
+            memcpy(our_calls, calls, sizeof calls);
+            otherwise += !same(us, through, n * n) || (size_t)info != out[0] || (size_t)here != out[1] ||
+                         (size_t)made != out[2] || (size_t)refused != out[3];
+            if (info) {
+                Test test = our_test(n1, n2, failed);
+                unlike += !(test.number > test.threshold);
+                by_size[n1 + n2]++;
+            }
+            lapack_move(n, them, from, to, &their_info);
+            if (!info && !their_info) {
+                neither++;
+                continue;
+            }
+            int alike = info && their_info && !strcmp(calls, our_calls);
+            at_one += alike, at_two += info && their_info && !alike;
+            ours += info && !their_info, theirs += their_info && !info;
+            if (alike)
+                continue;
+            if (!info || (their_info && made < our_made))
+                memcpy(failed, window, sizeof window), n1 = sizes[0], n2 = sizes[1];
+            kinds[apart(our_test(n1, n2, failed), their_test(n1, n2, failed))]++;
+        }
+        printf("  %-14s both at one exchange %ld, at two %ld, only ours %ld, only dtrexc %ld, neither %ld", sorts[sort],
+               at_one, at_two, ours, theirs, neither);
+        printf("; of ours %ld in three rows, %ld in four\n", by_size[3], by_size[4]);
+    }
+    for (int i = 0; i < APART; i++)
+        printf("  %-58s %ld\n", found[i], kinds[i]);
+    printf("  ours otherwise than by dtrexc's own control with our exchanges: %ld, our test told otherwise: %ld\n",
+           otherwise, unlike);
 }
 
 // ---- vectors
@@ -530,6 +672,7 @@ int main(int argc, char **argv) {
         void (*run)(long) = !strcmp(argv[1], "moduli")     ? moduli
                             : !strcmp(argv[1], "declines") ? declines
                             : !strcmp(argv[1], "readings") ? readings
+                            : !strcmp(argv[1], "stops")    ? stops
                                                            : exchanges;
         run(strtol(argv[2], 0, 10));
         return 0;
@@ -585,6 +728,22 @@ int main(int argc, char **argv) {
     strides(2, 3, 5, 0, 0, 1);
     strides(1, 129, 129, 0, 0, 0);
     strides(1, 2, 2, 1, 0, 0);
+
+    stopping_move(4, FORM(0, 0x1p28, 1, 1, -0x1p-6, 1, -1, 0, 0, 0, 0, 0x1p19, 0, 0, -8, 0), 0, 3);
+    stopping_move(3, FORM(0, 0, 0, 0, 1, 0, 0, 1, 0), 0, 2);
+    stopping_move(3, FORM(0, 0, 0, 1, 1, 0, 0, 0, 0), 0, 2);
+    stopping_move(3, FORM(1, 0, 0x1p1023, 0, 0, 0x1p1022, 0, 1, 0), 0, 2);
+    stopping_move(3, FORM(0, 0x1p1022, 0x1p1023, 1, 0, 0, 0, 0, 1), 0, 2);
+    stopping_move(3, FORM(0x1p1023, 0, 0x1p1022, 0, 0x1p1023, 0, 0, 0x1p1023, 0), 0, 2);
+    stopping_move(3, FORM(1, 0, 0x1p1023, 1, 0x1p1023, 0, 0, 0, 0), 0, 2);
+    stopping_move(3, FORM(0, 0, 0x1p1023, 0x1p1022, 0, 0, 0, 0, 0x1p1023), 0, 2);
+    seed(1);
+    stops(100000);
+    thresholds();
+    stopping_move(3, FORM(0, 0, 0, 0, 0, 0, 0, NAN, 0), 0, 2);
+    stopping_move(3, FORM(0, 0x1p512, 0, 0, 0, 0x1p512, 0, 0x1p512, 0), 0, 2);
+    stopping_move(3, FORM(0, 0, 0, 0, 0, -1, 0, 1, -2), 0, 2);
+    stopping_move(3, FORM(1, 0, 1, 0, 0, 0, 0, 0, 0), 0, 1);
 
     vectors(2, FORM(1, 8, 0, 2));
     vectors(2, FORM(1, 1, 0, 1));

@@ -4,6 +4,7 @@
 #define OURS_H
 #include "../../bindings/c/volmeixi.h"
 #include <math.h>
+#include <stdbool.h>
 #include <string.h>
 
 // Bit for bit; any NaN equals any NaN.
@@ -47,6 +48,15 @@ static inline size_t ours_move_at(size_t n, size_t ld, double *t, size_t tlen, d
 // the same with the stride n
 static inline size_t ours_move(size_t n, double *t, double *u, size_t from, size_t to, size_t *out) {
     return ours_move_at(n, n, t, n * n, u, u ? n * n : 0, from, to, out);
+}
+
+// whether it stopped, the row here, swaps, declined; of a move that stops, with the stride n
+static inline size_t ours_stopping_move(size_t n, double *t, double *u, size_t from, size_t to, size_t *out) {
+    bool stopped;
+    size_t answer =
+        vx_reorder_schur_stopping(n, n, t, n * n, u, u ? n * n : 0, from, to, &stopped, out + 1, out + 2, out + 3);
+    out[0] = stopped;
+    return answer;
 }
 
 // re im re im of the form of rows (a b) and (c d): of a copy standardised first, or as it stands,
