@@ -85,11 +85,22 @@ pub fn a_stopping_move(t: Vec<f64>, u: Vec<f64>, from: usize, to: usize) -> Reco
 
 /// Each window down and up, with a factor and without.
 pub fn at_windows() -> Vec<Record> {
-    let moves = |window: &Window| {
-        let t = window.form().to_vec();
-        [a_stopping_move(t.clone(), unit(3), 0, 2), a_stopping_move(t, Vec::new(), 2, 0)]
+    windows().iter().flat_map(|window| down_and_up(window.form())).collect()
+}
+
+fn down_and_up(t: [f64; 9]) -> [Record; 2] {
+    [a_stopping_move(t.to_vec(), unit(3), 0, 2), a_stopping_move(t.to_vec(), Vec::new(), 2, 0)]
+}
+
+/// Windows so small that nothing is reflected: the entry that is to become zero stays, above 10 × eps ×
+/// dnorm, and below the least threshold.
+pub fn at_small_windows() -> Vec<Record> {
+    let with = |place: usize, x: f64| {
+        let mut t = [0.0; 9];
+        t[place] = x;
+        t
     };
-    windows().iter().flat_map(moves).collect()
+    [1, 5].iter().flat_map(|place| [5e-324, -power(-1023)].map(|x| with(*place, x))).flat_map(down_and_up).collect()
 }
 
 /// Exchanges of two 2-blocks at the bound: those near it, and pairs of forms that differ in the last
@@ -155,6 +166,7 @@ pub fn base() -> Record {
 
 pub fn picked() -> Vec<Record> {
     let mut cases = at_windows();
+    cases.extend(at_small_windows());
     cases.extend(at_the_bound());
     cases.extend(stops());
     cases.extend((1..=3).map(|n| a_stopping_move(form(&vec![1; n]), unit(n), n - 1, 0)));
@@ -215,6 +227,17 @@ mod tests {
                     assert_eq!((answer.n("here"), answer.l("t")), (here, case.l("t")), "{case}");
                 }
             }
+        }
+    }
+
+    #[test]
+    fn small_windows_pass() {
+        for case in at_small_windows() {
+            let window: [f64; 9] = case.l("t").try_into().expect("three rows");
+            let ([p, q, _], threshold) = stopping::tested(if window[1] == 0.0 { 1 } else { 2 }, &window);
+            assert!(p.max(q) > 0.0 && threshold == power(-970), "{case}");
+            let (answer, _) = calls::answer(&case);
+            assert_eq!([answer.n("stopped"), answer.n("swaps")], [0, 1], "{case}");
         }
     }
 
