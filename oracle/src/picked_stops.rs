@@ -12,14 +12,15 @@ pub const CALL: &str = "reorder_schur_stopping";
 /// A window of three rows, a single row and a 2-block, and what its test meets: which of the three
 /// numbers are above the threshold, which are at it, and how many are NaN. The block is its rows (a, b)
 /// and (c, d); beside the diagonal stand two numbers, from left to right or from top to bottom.
+#[cfg_attr(not(test), allow(dead_code))]
 pub struct Window {
-    pub n1: usize,
-    pub block: [f64; 4],
-    pub single: f64,
-    pub beside: [f64; 2],
-    pub above: &'static [usize],
-    pub at: &'static [usize],
-    pub nans: usize,
+    n1: usize,
+    block: [f64; 4],
+    single: f64,
+    beside: [f64; 2],
+    above: &'static [usize],
+    at: &'static [usize],
+    nans: usize,
 }
 
 impl Window {
