@@ -44,19 +44,21 @@ fn trying(
         return m;
     }
     let fails = try_exchange(&mut *t, &mut *u, ld, n, j, n1, n2);
+    let swaps = m.swaps + 1;
     if fails {
+        let declined = m.declined + 1;
         return Going {
             here: m.here,
             nbf: m.nbf,
-            swaps: m.swaps + 1,
-            declined: m.declined + 1,
+            swaps,
+            declined,
             stopped: true,
         };
     }
     Going {
         here: m.here,
         nbf: m.nbf,
-        swaps: m.swaps + 1,
+        swaps,
         declined: m.declined,
         stopped: false,
     }
