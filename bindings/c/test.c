@@ -272,6 +272,9 @@ static void stopping_moves(void)
 {
     const double unit[4] = {1, 0, 0, 1}, one_two[4] = {1, 0, 0, 2};
     const double moved_t[4] = {2, 0, 0, 1}, moved_u[4] = {0, 1, -1, 0};
+    const double loud[2][9] = {{0x1p1022, 0, 0, 0x1p1000, 0, 1, 0x1p1023, 0, 0},
+                               {-0x1p1023, 1, 0, 0x1p1023, 1, 0, 0, 0, 0}};
+    const double twofold[9] = {-4, 0, 0, 0, -4, -1, 0, 1, -2};
 
     /* To its end: on a triangular form it does what the other move does. */
     lend(one_two_three, 9);
@@ -306,6 +309,17 @@ static void stopping_moves(void)
     CHECK(stopped && landed == 2 && swaps == 1 && declined == 1);
     CHECK(untouched());
 
+    /* So do a row and a pair, and a pair and a row, whose reflections overflow. The other move has no
+     * test there. */
+    for (size_t k = 0; k < PLACES(loud); k++) {
+        lend(loud[k], 9);
+        CHECK(stopping(3, 3, 9, 9, 0, 2) == VX_DONE);
+        CHECK(stopped && landed == 0 && swaps == 1 && declined == 1);
+        CHECK(untouched());
+        CHECK(move(3, 3, 9, 9, 0, 2) == VX_DONE);
+        CHECK(landed == 2 - k && swaps == 1 && declined == 0);
+    }
+
     /* The second fails: form and factor are as a move to where it stopped leaves them. */
     lend(alike_apart, 36);
     CHECK(stopping(6, 6, 36, 36, 0, 2) == VX_DONE);
@@ -326,6 +340,15 @@ static void stopping_moves(void)
     CHECK(stopped && landed == 0 && swaps == 1 && declined == 1);
     CHECK(move(6, 6, 36, 0, 0, 5) == VX_DONE);
     CHECK(landed == 4 && swaps == 2 && declined == 1);
+
+    /* A pair that is standardised to b zero splits, as dlanv2 has it; the other move leaves it so. */
+    lend(twofold, 9);
+    CHECK(stopping(3, 3, 9, 0, 0, 2) == VX_DONE);
+    CHECK(!stopped && landed == 2 && swaps == 1 && declined == 0);
+    CHECK(t[0] == -3 && t[1] == 0 && t[3] == -2 && t[4] == -3 && t[8] == -4);
+    lend(twofold, 9);
+    CHECK(move(3, 3, 9, 0, 0, 2) == VX_DONE);
+    CHECK(t[0] == -3 && t[1] == 2 && t[3] == 0 && t[4] == -3 && t[8] == -4);
 }
 
 static void exchanges(void)

@@ -182,6 +182,16 @@ class Worked(Case):
             self.assertEqual((t, u), (floats(ALIKE), diagonal(1, 1, 1, 1)))
         self.assertIs(moved.stopped, True)
 
+        # a row and a pair, a pair and a row, whose reflections overflow; the other move has no test there
+        for form in (
+            (2.0**1022, 0, 0, 2.0**1000, 0, 1, 2.0**1023, 0, 0),
+            (-(2.0**1023), 1, 0, 2.0**1023, 1, 0, 0, 0, 0),
+        ):
+            t = floats(form)
+            self.assertEqual(vx.reorder_schur_stopping(t, None, 0, 2), (True, 0, 1, 1))
+            self.assertEqual(t, floats(form))
+            self.assertEqual(vx.reorder_schur(t, None, 0, 2).declined, 0)
+
         # at the second exchange: form and factor as a move to that row leaves them
         (t, u), (first_t, first_u) = ((floats(ALIKE_APART), diagonal(*[1] * 6)) for _ in range(2))
         self.assertEqual(vx.reorder_schur_stopping(first_t, first_u, 0, 2), (False, 2, 1, 0))
@@ -193,6 +203,15 @@ class Worked(Case):
         self.assertEqual(vx.reorder_schur_stopping(t, None, 4, 0), (True, 2, 2, 1))
         self.assertEqual(vx.reorder_schur_stopping(t, None, 0, 5), (True, 0, 1, 1))
         self.assertEqual(vx.reorder_schur(t, None, 0, 5), (4, 2, 1))
+
+    def test_a_pair_standardised_to_b_zero(self):
+        """It splits, as dlanv2 has it; the other move leaves it so."""
+        form = floats([-4, 0, 0, 0, -4, -1, 0, 1, -2])
+        t, other = form[:], form[:]
+        self.assertEqual(vx.reorder_schur_stopping(t, None, 0, 2), (False, 2, 1, 0))
+        self.assertEqual(t, floats([-3, 0, 0, -2, -3, 0, 0, 0, -4]))
+        vx.reorder_schur(other, None, 0, 2)
+        self.assertEqual(other, floats([-3, 2, 0, 0, -3, 0, 0, 0, -4]))
 
     def test_exchanges(self):
         t = diagonal(1, 2, 3)

@@ -190,6 +190,17 @@ fn moves_that_stop() {
         assert_eq!(stopping(4, &mut t, from, 2 - here), StoppingMove { stopped: true, here, swaps: 1, declined: 1 });
         assert_eq!(bits(&t), bits(&ALIKE));
     }
+    // a row and a pair, a pair and a row, whose reflections overflow; the other move has no test there
+    let power = |k| 2f64.powi(k);
+    for form in [
+        [power(1022), 0.0, 0.0, power(1000), 0.0, 1.0, power(1023), 0.0, 0.0],
+        [-power(1023), 1.0, 0.0, power(1023), 1.0, 0.0, 0.0, 0.0, 0.0],
+    ] {
+        let mut t = form;
+        assert_eq!(stopping(3, &mut t, 0, 2), StoppingMove { stopped: true, here: 0, swaps: 1, declined: 1 });
+        assert_eq!(bits(&t), bits(&form));
+        assert_eq!(reorder_schur(3, &mut t, None, 0, 2).unwrap().declined, 0);
+    }
     // at the second: as a move to that row leaves them
     let (mut t, mut u) = (ALIKE_APART, diagonal(&[1.0; 6]));
     let (mut first_t, mut first_u) = (ALIKE_APART, diagonal(&[1.0; 6]));
@@ -207,6 +218,18 @@ fn moves_that_stop() {
     assert_eq!(stopping(6, &mut t, 4, 0), StoppingMove { stopped: true, here: 2, swaps: 2, declined: 1 });
     assert_eq!(stopping(6, &mut t, 0, 5), StoppingMove { stopped: true, here: 0, swaps: 1, declined: 1 });
     assert_eq!(reorder_schur(6, &mut t, None, 0, 5), Ok(Moved { landed: 4, swaps: 2, declined: 1 }));
+}
+
+/// It splits, as dlanv2 has it; the other move leaves it so.
+#[test]
+fn a_pair_standardised_to_b_zero() {
+    let form = [-4.0, 0.0, 0.0, 0.0, -4.0, -1.0, 0.0, 1.0, -2.0];
+    let mut t = form;
+    assert_eq!(stopping(3, &mut t, 0, 2), StoppingMove { stopped: false, here: 2, swaps: 1, declined: 0 });
+    assert_eq!(t, [-3.0, 0.0, 0.0, -2.0, -3.0, 0.0, 0.0, 0.0, -4.0]);
+    let mut t = form;
+    reorder_schur(3, &mut t, None, 0, 2).unwrap();
+    assert_eq!(t, [-3.0, 2.0, 0.0, 0.0, -3.0, 0.0, 0.0, 0.0, -4.0]);
 }
 
 #[test]
