@@ -1,2 +1,4 @@
 // Inside (`sheet_words`, `sheet_text`, `replay_text`, `replay_calls`, `replay_forms`): floats by their bits, every NaN as one.
+#![tactic(auto)]
+
 pub mod float;

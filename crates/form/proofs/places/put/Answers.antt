@@ -1,0 +1,5 @@
+-- `form::places::put` meets its contract. Assumes nothing.
+use Rattle.form.proofs.places.put.Goals as goal
+
+pub returns : goal.returns
+returns c = rw c.place.ensures.0
