@@ -4,8 +4,7 @@ use Prim.Native.Nat.{ℕ, ◌-◌, ◌*◌, ◌/◌, ◌%◌, ◌^◌, ◌≤◌
 use native.Mathlib.Nat.{mod-eq_of_lt, lt_of_le_of_lt, div-mul-le_self, div-add-mod'}
 use native.Mathlib.Omega.{arith}
 use borrow.Author.Rules.{rules}
-use Rattle.modulus.proofs.squares.part.Statement.{statement}
-use Rattle.modulus.proofs.squares.part.Tie as tie
+use Rattle.modulus.proofs.squares.part.Goals as goal
 
 module _ (x s : ℕ) (h : x < 2 ^ 64) where
   up : x / 2 ^ s * 2 ^ s % 2 ^ 64 ≡ x / 2 ^ s * 2 ^ s
@@ -17,17 +16,8 @@ module _ (x s : ℕ) (h : x < 2 ^ 64) where
   left : x - x / 2 ^ s * 2 ^ s % 2 ^ 64 ≡ x % 2 ^ s
   left = ap (λ (z : ℕ). x - z) up ∙ omega (arith, div-add-mod' x (2 ^ s))
 
-shr-above : tie.Need-overflow-shr-above
-shr-above c = search rules
+pub overflow_sub-result : goal.overflow_sub-result
+overflow_sub-result c = within c.args.x c.args.s (search rules)
 
-shl-t5 : tie.Need-overflow-shl-t5
-shl-t5 c = search rules
-
-sub-t6 : tie.Need-overflow-sub-t6
-sub-t6 c = within c.args.x c.args.s (search rules)
-
-returns : tie.Need-returns
+pub returns : goal.returns
 returns c = (refl, left c.args.x c.args.s (search rules))
-
-pub part-spec : {M : Type 1} → statement M
-part-spec = tie.close (tie.spec shr-above shl-t5 sub-t6 returns)

@@ -4,11 +4,9 @@ use Prim.Native.Nat.{ℕ, ◌+◌, ◌-◌, ◌*◌, ◌/◌, ◌%◌, ◌^◌, 
 use native.Mathlib.Nat.{mod-eq_of_lt, mul-le-mul, div-le_self}
 use native.Mathlib.Omega.{arith}
 use lib.Pow.{pow_pos}
-use borrow.Author.Rules.{rules}
 use Rattle.modulus.specs.Modulus.{Square, Sum}
 use Rattle.modulus.proofs.Parts.{quotient, remainder, under, twice, to_54}
-use Rattle.modulus.proofs.squares.sum_of_squares.Statement.{statement}
-use Rattle.modulus.proofs.squares.sum_of_squares.Tie as tie
+use Rattle.modulus.proofs.squares.sum_of_squares.Goals as goal
 
 -- the high limb of a square of 54 digits
 tall : (x high low : ℕ) → x < 2 ^ 54 → Square x high low → high ≤ 2 ^ 54
@@ -46,58 +44,28 @@ limbs {x} {y} {d} {ah} {al} {bh} {bl} {high} {over} {low} {rest} pre a b (eh, eo
 
 module _ {x y d ah al bh bl high over low rest : ℕ} (l : Limbs x y d ah al bh bl high over low rest) where
   plain : over * 2 ^ (54 - d * 2) % 2 ^ 64 ≡ over * 2 ^ (54 - d * 2)
-  plain = mod-eq_of_lt (omega (arith, l.over-most))
+  plain = mod-eq_of_lt (omega (arith, l.over_most))
 
   sum_most : al + low + over * 2 ^ (54 - d * 2) % 2 ^ 64 < 2 ^ 56
-  sum_most = rw plain (omega (arith, l.over-most, l.low-most, l.a.short))
+  sum_most = rw plain (omega (arith, l.over_most, l.low-most, l.a.short))
 
   top_most : ah + high + (al + low + over * 2 ^ (54 - d * 2) % 2 ^ 64) / 2 ^ 54 < 2 ^ 56
-  top_most = omega (arith, l.ah-most, l.high-most, sum_most)
+  top_most = omega (arith, l.ah_most, l.high-most, sum_most)
 
   is_sum : Sum x y d (ah + high + (al + low + over * 2 ^ (54 - d * 2) % 2 ^ 64) / 2 ^ 54) ((al + low + over * 2 ^ (54 - d * 2) % 2 ^ 64) % 2 ^ 54) rest
   is_sum = record { is = rw l.quotient (omega (arith, plain, l.a.is)); short = omega arith; left = l.left }
 
-square-requires : tie.Need-square-requires
-square-requires c κs = search rules
+pub overflow_add-sum : goal.overflow_add-sum
+overflow_add-sum c = let k = limbs c.requires c.square-a.ensures c.square-b.ensures c.part-p.ensures c.part-q.ensures in omega (arith, k.low-most, k.a.short)
 
-square-requires-2 : tie.Need-square-requires-2
-square-requires-2 c κs = search rules
+pub overflow_add-sum-2 : goal.overflow_add-sum-2
+overflow_add-sum-2 c = omega (arith, sum_most (limbs c.requires c.square-a.ensures c.square-b.ensures c.part-p.ensures c.part-q.ensures))
 
-cast-s : tie.Need-overflow-cast-s
-cast-s c = search rules
+pub overflow_add-result : goal.overflow_add-result
+overflow_add-result c = let k = limbs c.requires c.square-a.ensures c.square-b.ensures c.part-p.ensures c.part-q.ensures in omega (arith, k.ah_most, k.high-most)
 
-mul-s : tie.Need-overflow-mul-s
-mul-s c = search rules
+pub overflow_add-result-2 : goal.overflow_add-result-2
+overflow_add-result-2 c = omega (arith, top_most (limbs c.requires c.square-a.ensures c.square-b.ensures c.part-p.ensures c.part-q.ensures))
 
-part-requires : tie.Need-part-requires
-part-requires c κs = search rules
-
-part-requires-2 : tie.Need-part-requires-2
-part-requires-2 c κs = search rules
-
-add-sum : tie.Need-overflow-add-sum
-add-sum c = let k = limbs c.before.before.before.before.requires c.before.before.before.square.ensures c.before.before.square2.ensures c.before.part.ensures c.part2.ensures in omega (arith, k.low-most, k.a.short)
-
-sub-sum : tie.Need-overflow-sub-sum
-sub-sum c = search rules
-
-cast-sum : tie.Need-overflow-cast-sum
-cast-sum c = search rules
-
-shl-sum : tie.Need-overflow-shl-sum
-shl-sum c = search rules
-
-add-sum-2 : tie.Need-overflow-add-sum-2
-add-sum-2 c = omega (arith, sum_most (limbs c.before.before.before.before.requires c.before.before.before.square.ensures c.before.before.square2.ensures c.before.part.ensures c.part2.ensures))
-
-add-t19 : tie.Need-overflow-add-t19
-add-t19 c = let k = limbs c.before.before.before.before.requires c.before.before.before.square.ensures c.before.before.square2.ensures c.before.part.ensures c.part2.ensures in omega (arith, k.ah-most, k.high-most)
-
-add-t20 : tie.Need-overflow-add-t20
-add-t20 c = omega (arith, top_most (limbs c.before.before.before.before.requires c.before.before.before.square.ensures c.before.before.square2.ensures c.before.part.ensures c.part2.ensures))
-
-returns : tie.Need-returns
-returns c = is_sum (limbs c.before.before.before.before.requires c.before.before.before.square.ensures c.before.before.square2.ensures c.before.part.ensures c.part2.ensures)
-
-pub sum-of-squares-spec : {M : Type 1} → statement M
-sum-of-squares-spec = tie.close (tie.spec square-requires square-requires-2 cast-s mul-s part-requires part-requires-2 add-sum sub-sum cast-sum shl-sum add-sum-2 add-t19 add-t20 returns)
+pub returns : goal.returns
+returns c = is_sum (limbs c.requires c.square-a.ensures c.square-b.ensures c.part-p.ensures c.part-q.ensures)

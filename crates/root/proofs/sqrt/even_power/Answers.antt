@@ -4,9 +4,7 @@ use Prim.Native.Nat.{ℕ, suc, ◌+◌, ◌*◌, ◌/◌, ◌%◌, ◌^◌}
 use native.Mathlib.Nat.{pow-succ'}
 use native.Mathlib.Omega.{arith}
 use lib.Pow.{pow-add}
-use borrow.Author.Rules.{rules}
-use Rattle.root.proofs.sqrt.even_power.Statement.{statement}
-use Rattle.root.proofs.sqrt.even_power.Tie as tie
+use Rattle.root.proofs.sqrt.even_power.Goals as goal
 
 even : (power : ℕ) → power % 2 ≡ 0 → 2 ^ power ≡ 2 ^ (power / 2) * 2 ^ (power / 2)
 even power h = let e : power ≡ power / 2 + power / 2 = omega arith in ap (λ (x : ℕ). 2 ^ x) e ∙ pow-add 2 (power / 2) (power / 2)
@@ -16,14 +14,8 @@ odd power h =
     let e : power ≡ suc (power / 2 + power / 2) = omega arith in
     ap (λ (x : ℕ). 2 ^ x) e ∙ pow-succ' 2 (power / 2 + power / 2) ∙ ap (λ (x : ℕ). 2 * x) (pow-add 2 (power / 2) (power / 2))
 
-mul-result : tie.Need-overflow-mul-result
-mul-result c = search rules
+pub returns-then-power-eq0 : goal.returns-then-power-eq0
+returns-then-power-eq0 c = record { is = rw (even c.args.power c.if-power-eq0.true); low = omega arith; high = omega arith }
 
-returns : tie.Need-returns
-returns c = record { is = rw (even c.before.args.power c.if1.true); low = omega arith; high = omega arith }
-
-returns-2 : tie.Need-returns-2
-returns-2 c = record { is = rw (odd c.before.args.power c.if1.false) (omega arith); low = omega arith; high = omega arith }
-
-pub even-power-spec : {M : Type 1} → statement M
-even-power-spec = tie.close (tie.spec mul-result returns returns-2)
+pub returns-else-power-eq0 : goal.returns-else-power-eq0
+returns-else-power-eq0 c = record { is = rw (odd c.args.power c.if-power-eq0.false) (omega arith); low = omega arith; high = omega arith }

@@ -3,9 +3,7 @@ use mathlib.Core.Path.{◌≡◌, ap}
 use Prim.Native.Nat.{ℕ, ◌+◌, ◌*◌, ◌/◌, ◌%◌, ◌^◌, ◌≤◌, ◌<◌}
 use native.Mathlib.Nat.{mul-le-mul}
 use native.Mathlib.Omega.{arith}
-use borrow.Author.Rules.{rules}
-use Rattle.modulus.proofs.squares.square.Statement.{statement}
-use Rattle.modulus.proofs.squares.square.Tie as tie
+use Rattle.modulus.proofs.squares.square.Goals as goal
 
 -- the products within 64 bits
 product : (x : ℕ) → x < 2 ^ 55 → x / 0x800_0000 * (x % 0x800_0000) ≤ 2 ^ 55
@@ -20,32 +18,26 @@ low x = let b : x % 0x800_0000 ≤ 2 ^ 27 = omega arith in mul-le-mul b b
 halves : (x : ℕ) → (x / 0x800_0000 * 0x800_0000 + x % 0x800_0000) * (x / 0x800_0000 * 0x800_0000 + x % 0x800_0000) ≡ x * x
 halves x = let e : x / 0x800_0000 * 0x800_0000 + x % 0x800_0000 ≡ x = omega arith in ap (λ (z : ℕ). z * z) e
 
-mul-m : tie.Need-overflow-mul-m
-mul-m c = omega (arith, product c.args.x c.requires)
+pub overflow_mul-m : goal.overflow_mul-m
+overflow_mul-m c = omega (arith, product c.args.x c.requires)
 
-mul-m-2 : tie.Need-overflow-mul-m-2
-mul-m-2 c = omega (arith, product c.args.x c.requires)
+pub overflow_mul-m-2 : goal.overflow_mul-m-2
+overflow_mul-m-2 c = omega (arith, product c.args.x c.requires)
 
-mul_low : tie.Need-overflow-mul-low
-mul_low c = search rules
+pub overflow_mul-low-2 : goal.overflow_mul-low-2
+overflow_mul-low-2 c = omega (arith, low c.args.x)
 
-mul-low-2 : tie.Need-overflow-mul-low-2
-mul-low-2 c = omega (arith, low c.args.x)
+pub overflow_add-low : goal.overflow_add-low
+overflow_add-low c = omega (arith, low c.args.x)
 
-add_low : tie.Need-overflow-add-low
-add_low c = omega (arith, low c.args.x)
+pub overflow_mul-result : goal.overflow_mul-result
+overflow_mul-result c = omega (arith, high c.args.x c.requires)
 
-mul-t6 : tie.Need-overflow-mul-t6
-mul-t6 c = omega (arith, high c.args.x c.requires)
+pub overflow_add-result : goal.overflow_add-result
+overflow_add-result c = omega (arith, high c.args.x c.requires, product c.args.x c.requires)
 
-add-t7 : tie.Need-overflow-add-t7
-add-t7 c = omega (arith, high c.args.x c.requires, product c.args.x c.requires)
+pub overflow_add-result-2 : goal.overflow_add-result-2
+overflow_add-result-2 c = omega (arith, high c.args.x c.requires, product c.args.x c.requires, low c.args.x)
 
-add-t10 : tie.Need-overflow-add-t10
-add-t10 c = omega (arith, high c.args.x c.requires, product c.args.x c.requires, low c.args.x)
-
-returns : tie.Need-returns
+pub returns : goal.returns
 returns c = record { is = omega (arith, halves c.args.x); short = omega arith }
-
-pub square-spec : {M : Type 1} → statement M
-square-spec = tie.close (tie.spec mul-m mul-m-2 mul_low mul-low-2 add_low mul-t6 add-t7 add-t10 returns)

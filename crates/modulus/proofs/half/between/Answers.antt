@@ -6,10 +6,8 @@ use native.Mathlib.Decide.{dec_lt}
 use mathlib.Core.Bool.{false, ◌&&◌}
 use lib.Dec.{ltb}
 use borrow.Author.Tests.{lt-ltb, le-ltb}
-use borrow.Author.Rules.{rules}
 use Rattle.modulus.specs.Modulus.{wide, Square}
-use Rattle.modulus.proofs.half.between.Statement.{statement}
-use Rattle.modulus.proofs.half.between.Tie as tie
+use Rattle.modulus.proofs.half.between.Goals as goal
 
 module _ {k th tl : ℕ} (some : 0 < k) (q : Square (k * 2 - 1) th tl) where
   abbrev lower : ℕ
@@ -40,38 +38,14 @@ module _ {k th tl : ℕ} (some : 0 < k) (q : Square (k * 2 - 1) th tl) where
         | no l ↦ rw (le-ltb v (k * 8) (omega (arith, l)), lt-ltb lower n (omega (arith, is)), le-ltb n upper (omega (arith, is, apart, l)))
       ]
 
-mul-square : tie.Need-overflow-mul-square
-mul-square c = search rules
+pub returns-then-high-t_high : goal.returns-then-high-t_high
+returns-then-high-t_high c = not_above c.requires.2 c.square-t.ensures _ (omega (arith, c.if-high-t_high.true, c.requires.1))
 
-sub-square : tie.Need-overflow-sub-square
-sub-square c = search rules
+pub returns-then-d-ge16 : goal.returns-then-d-ge16
+returns-then-d-ge16 c = not_below c.requires.2 c.square-t.ensures _ (omega (arith, c.if-d-ge16.true, c.if-high-t_high.false, c.square-t.ensures.short, c.requires.3))
 
-square-requires : tie.Need-square-requires
-square-requires c κs = search rules
+pub returns-then-u-t_low : goal.returns-then-u-t_low
+returns-then-u-t_low c = not_above c.requires.2 c.square-t.ensures _ (omega (arith, c.if-u-t_low.true, c.if-high-t_high.false))
 
-returns : tie.Need-returns
-returns c = not_above c.before.before.requires.2 c.before.square.ensures _ (omega (arith, c.if1.true, c.before.before.requires.1))
-
-returns-2 : tie.Need-returns-2
-returns-2 c = not_below c.before.before.before.requires.2 c.before.before.square.ensures _ (omega (arith, c.if2.true, c.before.if1.false, c.before.before.square.ensures.short, c.before.before.before.requires.3))
-
-mul-u : tie.Need-overflow-mul-u
-mul-u c = search rules
-
-add-u : tie.Need-overflow-add-u
-add-u c = search rules
-
-returns-3 : tie.Need-returns-3
-returns-3 c = not_above c.before.before.before.before.requires.2 c.before.before.before.square.ensures _ (omega (arith, c.if3.true, c.before.before.if1.false))
-
-sub-result : tie.Need-overflow-sub-result
-sub-result c = search rules
-
-mul-result : tie.Need-overflow-mul-result
-mul-result c = search rules
-
-returns-4 : tie.Need-returns-4
-returns-4 c = last c.before.before.before.before.requires.2 c.before.before.before.square.ensures _ _ (omega (arith, c.if3.false, c.before.before.if1.false)) (omega (arith, c.if3.false))
-
-pub between-spec : {M : Type 1} → statement M
-between-spec = tie.close (tie.spec mul-square sub-square square-requires returns returns-2 mul-u add-u returns-3 sub-result mul-result returns-4)
+pub returns : goal.returns
+returns c = last c.requires.2 c.square-t.ensures _ _ (omega (arith, c.if-u-t_low.false, c.if-high-t_high.false)) (omega (arith, c.if-u-t_low.false))

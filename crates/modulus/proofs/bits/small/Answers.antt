@@ -4,7 +4,6 @@ use Prim.Native.Nat.{ℕ, zero, suc, ◌+◌, ◌-◌, ◌*◌, ◌/◌, ◌%◌
 use native.Mathlib.Nat.{mod-eq_of_lt, mul-le-mul, mul-le-mul_right, pow-succ'}
 use native.Mathlib.Omega.{arith}
 use lib.Ieee.{binary64}
-use borrow.Author.Rules.{rules}
 use Rattle.laws.specs.RootNearest.{square}
 use Rattle.laws.specs.HalfDigits.{HalfDigits}
 use Rattle.laws.specs.Cut.{NearestHalf}
@@ -12,8 +11,7 @@ use Rattle.laws.proofs.Cut.{scaled_digits}
 use Rattle.digits.specs.Digits.{Shift}
 use Rattle.modulus.specs.Modulus.{wide, four_sums, Sum, Fitted}
 use Rattle.modulus.proofs.Fit.{sum_fits}
-use Rattle.modulus.proofs.bits.small.Statement.{statement}
-use Rattle.modulus.proofs.bits.small.Tie as tie
+use Rattle.modulus.proofs.bits.small.Goals as goal
 
 module _ {x y s : ℕ} (pre : (0 < x) × (x < 2 ^ 52) × (y ≤ x)) (m : Shift x s) where
   lower : y * 2 ^ s ≤ x * 2 ^ s
@@ -70,47 +68,26 @@ module _ {x y s : ℕ} (pre : (0 < x) × (x < 2 ^ 52) × (y ≤ x)) (m : Shift x
         let e = scaled power (s - power) (omega (arith, moves, f.once)) f.once f.is f.left in
         scaled_digits binary64 (four_sums x y 0 0) (s - power) c (rw (e.0, e.1) at q) few
 
-shift-of-requires : tie.Need-shift-of-requires
-shift-of-requires c κs = search rules
+pub overflow_mul-x : goal.overflow_mul-x
+overflow_mul-x c = omega (arith, x-high c.requires c.shift_of-s.ensures)
 
-cast-sum-of-squares : tie.Need-overflow-cast-sum-of-squares
-cast-sum-of-squares c = search rules
+pub overflow_mul-y : goal.overflow_mul-y
+overflow_mul-y c = omega (arith, y-high c.requires c.shift_of-s.ensures)
 
-shl-sum-of-squares : tie.Need-overflow-shl-sum-of-squares
-shl-sum-of-squares c = search rules
+pub sum_of_squares-n-requires : goal.sum_of_squares-n-requires
+sum_of_squares-n-requires c = (omega (arith, x-high c.requires c.shift_of-s.ensures), omega (arith, y-high c.requires c.shift_of-s.ensures), omega arith)
 
-mul-sum-of-squares : tie.Need-overflow-mul-sum-of-squares
-mul-sum-of-squares c = omega (arith, x-high c.before.requires c.Shift-of.ensures)
+pub fitted-m-requires : goal.fitted-m-requires
+fitted-m-requires c =
+    let p = c.requires in
+    let m = c.shift_of-s.ensures in
+    sum_fits (x-low p m) (x-high p m) (y-high p m) (omega arith) c.sum_of_squares-n.ensures
 
-cast-sum-of-squares-2 : tie.Need-overflow-cast-sum-of-squares-2
-cast-sum-of-squares-2 c = search rules
+pub overflow_sub-s : goal.overflow_sub-s
+overflow_sub-s c = omega (arith, moves c.requires c.shift_of-s.ensures, c.fitted-m.ensures.once)
 
-shl-sum-of-squares-2 : tie.Need-overflow-shl-sum-of-squares-2
-shl-sum-of-squares-2 c = search rules
+pub stepped-requires : goal.stepped-requires
+stepped-requires c = (c.fitted-m.ensures.least, c.fitted-m.ensures.most, c.fitted-m.ensures.short, omega (arith, c.shift_of-s.ensures.most))
 
-mul-sum-of-squares-2 : tie.Need-overflow-mul-sum-of-squares-2
-mul-sum-of-squares-2 c = omega (arith, y-high c.before.requires c.Shift-of.ensures)
-
-sum-of-squares-requires : tie.Need-sum-of-squares-requires
-sum-of-squares-requires c κs = (omega (arith, x-high c.before.requires c.Shift-of.ensures), omega (arith, y-high c.before.requires c.Shift-of.ensures), omega arith)
-
-fitted-requires : tie.Need-fitted-requires
-fitted-requires c κs =
-    let p = c.before.before.requires in
-    let m = c.before.Shift-of.ensures in
-    sum_fits (x-low p m) (x-high p m) (y-high p m) (omega arith) c.sum-of-squares.ensures
-
-cast-stepped : tie.Need-overflow-cast-stepped
-cast-stepped c = search rules
-
-sub-stepped : tie.Need-overflow-sub-stepped
-sub-stepped c = omega (arith, moves c.before.before.before.requires c.before.before.Shift-of.ensures, c.fitted.ensures.once)
-
-stepped-requires : tie.Need-stepped-requires
-stepped-requires c κs = (c.fitted.ensures.least, c.fitted.ensures.most, c.fitted.ensures.short, omega (arith, c.before.before.Shift-of.ensures.most))
-
-returns : tie.Need-returns
-returns c = nearest c.before.before.before.before.requires c.before.before.before.Shift-of.ensures c.before.before.sum-of-squares.ensures c.before.fitted.ensures c.stepped.ensures
-
-pub small_spec : {M : Type 1} → statement M
-small_spec = tie.close (tie.spec shift-of-requires cast-sum-of-squares shl-sum-of-squares mul-sum-of-squares cast-sum-of-squares-2 shl-sum-of-squares-2 mul-sum-of-squares-2 sum-of-squares-requires fitted-requires cast-stepped sub-stepped stepped-requires returns)
+pub returns : goal.returns
+returns c = nearest c.requires c.shift_of-s.ensures c.sum_of_squares-n.ensures c.fitted-m.ensures c.stepped.ensures

@@ -4,11 +4,9 @@ use Prim.Native.Nat.{ℕ, ◌+◌, ◌-◌, ◌*◌, ◌%◌, ◌^◌}
 use native.Mathlib.Nat.{mul_assoc, mod-eq_of_lt}
 use native.Mathlib.Omega.{arith}
 use lib.Pow.{pow-add}
-use borrow.Author.Rules.{rules}
 use Rattle.digits.specs.Digits.{Significand, Shift}
 use Rattle.root.specs.Sqrt.{Parts}
-use Rattle.root.proofs.sqrt.split.Statement.{statement}
-use Rattle.root.proofs.sqrt.split.Tie as tie
+use Rattle.root.proofs.sqrt.split.Goals as goal
 
 moved : (b t power s : ℕ) → Significand b t power → Shift t s → Parts b (t * 2 ^ s % 2 ^ 64) (power + 1074 - s)
 moved b t power s n r =
@@ -24,29 +22,5 @@ moved b t power s n r =
       most = omega (arith, n.most);
     }
 
-significand-requires : tie.Need-significand-requires
-significand-requires c κs = search rules
-
-shift-of-requires : tie.Need-shift-of-requires
-shift-of-requires c κs = search rules
-
-cast-t6 : tie.Need-overflow-cast-t6
-cast-t6 c = search rules
-
-shl-t7 : tie.Need-overflow-shl-t7
-shl-t7 c = search rules
-
-add-t8 : tie.Need-overflow-add-t8
-add-t8 c = search rules
-
-cast-t9 : tie.Need-overflow-cast-t9
-cast-t9 c = search rules
-
-sub-t10 : tie.Need-overflow-sub-t10
-sub-t10 c = search rules
-
-returns : tie.Need-returns
-returns c = moved _ _ _ _ c.before.significand.ensures c.Shift-of.ensures
-
-pub split-spec : {M : Type 1} → statement M
-split-spec = tie.close (tie.spec significand-requires shift-of-requires cast-t6 shl-t7 add-t8 cast-t9 sub-t10 returns)
+pub returns : goal.returns
+returns c = moved _ _ _ _ c.significand-n.ensures c.shift_of-s.ensures

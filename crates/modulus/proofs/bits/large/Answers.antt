@@ -3,15 +3,13 @@ use mathlib.Core.Path.{◌≡◌}
 use Prim.Native.Nat.{ℕ, ◌+◌, ◌*◌}
 use native.Mathlib.Omega.{arith}
 use lib.Ieee.{binary64}
-use borrow.Author.Rules.{rules}
 use Rattle.laws.specs.RootNearest.{square}
 use Rattle.laws.specs.HalfDigits.{HalfDigits}
 use Rattle.laws.specs.Cut.{Cut, NearestHalf}
 use Rattle.laws.proofs.Cut.{cut_sum, cut_digits}
 use Rattle.modulus.specs.Modulus.{wide, four_sums, Sum, Fitted}
 use Rattle.modulus.proofs.Fit.{sum_fits, fit_cut}
-use Rattle.modulus.proofs.bits.large.Statement.{statement}
-use Rattle.modulus.proofs.bits.large.Tie as tie
+use Rattle.modulus.proofs.bits.large.Goals as goal
 
 -- the sum of the doubled numbers' squares is a cut
 sum_cut : (x y : ℕ) {d high low rest : ℕ} (k : ℕ) → Sum (x * 2) (y * 2) d high low rest → Cut (four_sums x y k d) (k + d) (wide high low) rest
@@ -24,23 +22,8 @@ digits : (x y : ℕ) {d high low rest h l r power c : ℕ} → Sum (x * 2) (y * 
 digits x y {d} {high} {low} {rest} {h} {l} {r} {power} {c} s f q k =
     cut_digits binary64 (four_sums x y k d) (k + d + power) (wide h l) r c (fit_cut (four_sums x y k d) (k + d) (sum_cut x y k s) f) q (omega (arith, f.least)) (omega (arith, f.most, f.short))
 
-mul-sum-of-squares : tie.Need-overflow-mul-sum-of-squares
-mul-sum-of-squares c = search rules
+pub fitted-m-requires : goal.fitted-m-requires
+fitted-m-requires c = let p = c.requires in sum_fits p.0 p.1 p.2 p.3 c.sum_of_squares-n.ensures
 
-mul-sum-of-squares-2 : tie.Need-overflow-mul-sum-of-squares-2
-mul-sum-of-squares-2 c = search rules
-
-sum-of-squares-requires : tie.Need-sum-of-squares-requires
-sum-of-squares-requires c κs = search rules
-
-fitted-requires : tie.Need-fitted-requires
-fitted-requires c κs = let p = c.before.requires in sum_fits p.0 p.1 p.2 p.3 c.sum-of-squares.ensures
-
-nearest-half-requires : tie.Need-nearest-half-requires
-nearest-half-requires c κs = search rules
-
-returns : tie.Need-returns
-returns c = (digits c.before.before.before.args.x c.before.before.before.args.y c.before.before.sum-of-squares.ensures c.before.fitted.ensures c.nearest-half.ensures, c.before.fitted.ensures.once)
-
-pub large-spec : {M : Type 1} → statement M
-large-spec = tie.close (tie.spec mul-sum-of-squares mul-sum-of-squares-2 sum-of-squares-requires fitted-requires nearest-half-requires returns)
+pub returns : goal.returns
+returns c = (digits c.args.x c.args.y c.sum_of_squares-n.ensures c.fitted-m.ensures c.nearest_half.ensures, c.fitted-m.ensures.once)
