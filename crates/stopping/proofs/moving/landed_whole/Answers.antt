@@ -1,0 +1,43 @@
+-- `stopping::moving::landed_whole` meets its contract. Assumes nothing.
+use mathlib.Core.Path.{refl, sym, ◌∙◌}
+use native.Mathlib.Omega.{arith}
+use mathlib.Core.Bool.{true≢false}
+use lib.Dec.{lit≤}
+use borrow.Author.Tests.{eq-eqb, ne_eqb}
+use Rattle.schur.specs.Stands.{rows}
+use Rattle.schur.proofs.Ways.{lands}
+use Rattle.stopping.proofs.Ways.{stays, takes}
+use Rattle.stopping.proofs.moving.landed_whole.Goals as goal
+
+pub returns-then-e : goal.returns-then-e
+returns-then-e c =
+    let q = c.if-e.true in
+    let p = c.requires in
+    record { stands = λ u u₀ G s. stays _ q s; counts = (λ e. absurd (true≢false (sym q ∙ e)), record { one = p.2; three = omega arith; same = refl; few = omega arith; fewer = omega arith }) }
+
+pub returns-then-zero_below : goal.returns-then-zero_below
+unfolding rows
+returns-then-zero_below c =
+    let q = c.if-nbf-eq2.true in
+    record {
+      stands = λ u u₀ G s. takes _ c.if-e.false s (record { stopped = refl; stands = lands _ _ s.stands (rw (eq-eqb _ _ q, ← c.zero_below.ensures, c.if-zero_below.true)) });
+      counts = (λ e. refl, record { one = lit≤ tt; three = lit≤ tt; same = rw q; few = omega arith; fewer = omega arith });
+    }
+
+pub returns-else-zero_below : goal.returns-else-zero_below
+returns-else-zero_below c =
+    let q = c.if-nbf-eq2.true in
+    let p = c.requires in
+    record {
+      stands = λ u u₀ G s. takes _ c.if-e.false s (record { stopped = refl; stands = lands _ _ s.stands (rw (eq-eqb _ _ q, ← c.zero_below.ensures, c.if-zero_below.false)) });
+      counts = (λ e. refl, record { one = p.2; three = omega arith; same = refl; few = omega arith; fewer = omega arith });
+    }
+
+pub returns-else-nbf-eq2 : goal.returns-else-nbf-eq2
+returns-else-nbf-eq2 c =
+    let q = c.if-nbf-eq2.false in
+    let p = c.requires in
+    record {
+      stands = λ u u₀ G s. takes _ c.if-e.false s (record { stopped = refl; stands = lands _ _ s.stands (rw (ne_eqb _ _ q)) });
+      counts = (λ e. refl, record { one = p.2; three = omega arith; same = refl; few = omega arith; fewer = omega arith });
+    }
