@@ -3,13 +3,13 @@ use mathlib.Core.Path.{◌≡◌, refl, sym, ap, ◌∙◌}
 use mathlib.Core.Logic.{◌⊎◌, inl, inr}
 use Prim.Native.Nat.{ℕ, ◌+◌, ◌-◌, ◌≤◌}
 use native.Mathlib.Omega.{arith}
-use mathlib.Core.Bool.{Bool, true, false, not, ◌||◌, cond, true≢false}
+use mathlib.Core.Bool.{Bool, true, false, ◌||◌, cond, true≢false}
 use mathlib.Core.List.{List, []}
 use lib.Dec.{eqb, lit≤}
 use lib.Ieee.{Float, Format, eq, ne}
 use borrow.Author.Tests.{eqb-true, ltb-false, lt-ltb, not-false}
 use Rattle.model.specs.Arith.{zero_of}
-use Rattle.model.specs.Form.{entry, zero_below, two_block, line2, line17, line3, line4, line5, line6, line7}
+use Rattle.model.specs.Form.{zero_below, two_block, line2, line17, line3, line4, line5, line6, line7}
 use Rattle.model.specs.Swaps.{Change, unchanged, and_then, swaps_of, declining, swap11, swap12, swap21, window_at, solution_of, reflectors4, declines, swap22_by, swap22, swap_of, standardise}
 use Rattle.model.specs.Exchange.{standardise_if, exchange_whole, exchange, line8, line9, crosses, line10, exchange_line, exchange_call}
 use Rattle.laws.proofs.InOrder.{passed}

@@ -1,5 +1,5 @@
 -- Orthogonal operations on two, three or four columns, or rows, of a form: on one row's numbers, at places, and along a run of places. Definitions only. Assumes nothing.
-use Rattle.std.specs.Prelude.{ℕ, zero, suc, ◌+◌, ◌-◌, ◌*◌, List, [], ◌∷◌, set, Float}
+use Rattle.std.specs.Prelude.{ℕ, zero, suc, ◌+◌, ◌-◌, List, [], ◌∷◌, set, Float}
 use Rattle.std.specs.Float.{Format}
 use Rattle.std.specs.Float.Ieee.{add, sub, mul}
 use Rattle.model.specs.Jacobi.{Rotation, Pair, apply_right}

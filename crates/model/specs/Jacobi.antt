@@ -1,5 +1,5 @@
 -- Rotations: the pair c and s, rotg's real branch, the adjoint, and a rotation applied on the right to one pair of numbers. Definitions only. Assumes nothing.
-use Rattle.std.specs.Prelude.{Bool, cond, Float}
+use Rattle.std.specs.Prelude.{cond, Float}
 use Rattle.std.specs.Float.{Format}
 use Rattle.std.specs.Float.Ieee.{neg, add, sub, mul, div, lt, eq}
 use Rattle.model.specs.Root.{sqrt}

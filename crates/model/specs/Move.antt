@@ -1,5 +1,5 @@
 -- The move of a block (reorder_schur), whole, and as a call. Definitions only. Assumes nothing.
-use Rattle.std.specs.Prelude.{ℕ, zero, suc, ◌+◌, ◌-◌, Bool, ◌&&◌, cond, List, [], ◌∷◌, ◌++◌, eqb, ltb, leb, Float}
+use Rattle.std.specs.Prelude.{ℕ, zero, suc, ◌+◌, ◌-◌, ◌&&◌, cond, List, [], ◌∷◌, ◌++◌, eqb, ltb, leb, Float}
 use Rattle.std.specs.Float.{Format}
 use Rattle.model.specs.Lines.{first_of}
 use Rattle.model.specs.Form.{zero_below, nonzero_below, two_block, row_count, stride, form_length, factor_length, deep_entry, touching_blocks, position}
