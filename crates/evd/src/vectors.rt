@@ -83,7 +83,7 @@ fn real_column(ld: usize, n: usize, t: &[f64], norm: f64, k: usize, v: &mut [f64
 }
 
 // The two diagonal numbers of a 2-block's columns.
-#[derive(Drop)]
+#[derive(Clone, Copy)]
 struct Start {
     upper: f64,
     lower: f64,
