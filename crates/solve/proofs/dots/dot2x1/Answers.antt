@@ -11,15 +11,15 @@ loop-i-preserved c =
     let h = c.loop-i-test.true in
     let v = c.loop-i.invariant in (
       search rules,
-      halves_next _ _ _ _ _ _ _ _ h c.product-acc00.ensures c.product-acc01.ensures v.1,
-      halves_next _ _ _ _ _ _ _ _ h c.product-acc10.ensures c.product-acc11.ensures v.2,
+      halves_next _ _ _ _ _ _ _ _ h (cc) (cc) v.1,
+      halves_next _ _ _ _ _ _ _ _ h (cc) (cc) v.2,
     )
 
 pub returns-then-i-n : goal.returns-then-i-n
 returns-then-i-n c =
     let v = c.loop-i.invariant in (
-      halves_last _ _ _ _ _ _ _ c.if-i-n.true c.loop-i-test.false c.product.ensures v.1,
-      halves_last _ _ _ _ _ _ _ c.if-i-n.true c.loop-i-test.false c.product-then-i-n.ensures v.2,
+      halves_last _ _ _ _ _ _ _ c.if-i-n.true c.loop-i-test.false (cc) v.1,
+      halves_last _ _ _ _ _ _ _ c.if-i-n.true c.loop-i-test.false (cc) v.2,
     )
 
 pub returns : goal.returns
