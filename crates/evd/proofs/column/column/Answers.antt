@@ -42,7 +42,7 @@ returns-then-v-ld c =
 pub returns-then-n-col : goal.returns-then-n-col
 unfolding column_of column_line line2 line17 line7
 returns-then-n-col c =
-    rw (ne_eqb _ _ c.if-n-eq0.false, le-ltb _ _ c.if-n-gt64.false, le-ltb _ _ c.if-ld-n.false, le-ltb _ _ c.if-ld-gt128.false, eq-eqb _ _ c.if-v-ld.false, le-ltb _ _ c.if-n-col.true)
+    rw (ne_eqb _ _ c.if-n-eq0.false, le-ltb _ _ c.if-n-gt64.false, le-ltb _ _ c.if-ld-n.false, le-ltb _ _ c.if-ld-gt128.false, eq-eqb _ _ c.if-v-ld.false, le-ltb c.args.col c.args.n (omega arith))
 
 pub returns : goal.returns
 unfolding column_of column_line line2 line17 line7
