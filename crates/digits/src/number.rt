@@ -6,7 +6,7 @@ ghost use Rattle.digits.specs.Digits.{Significand, Shift};
 const HIDDEN: u64 = 0x10_0000_0000_0000;
 
 // The number digits * 2^power.
-#[derive(Drop)]
+#[derive(Clone, Copy)]
 pub struct Scaled {
     pub digits: u64,
     pub power: u64,

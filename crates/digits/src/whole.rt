@@ -9,7 +9,7 @@ use crate::table::line_at;
 const FAR: u64 = 0x20_0000_0000_0000;
 
 // A root and the inverse of one, both near.
-#[derive(Drop)]
+#[derive(Clone, Copy)]
 struct Near {
     pub root: u64,
     pub inverse: u64,

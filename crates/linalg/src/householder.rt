@@ -9,7 +9,7 @@ use arith::norm::{hypot, norm_l2};
 use arith::real::{MIN_POSITIVE, abs, abs2, recip};
 
 // The answer of a reflection: 0 and four results, or 11 and zeros.
-#[derive(Drop)]
+#[derive(Clone, Copy)]
 pub struct Reflection {
     pub answer: usize,
     pub head: f64,

@@ -10,21 +10,21 @@ use arith::real::{MIN_POSITIVE, abs, abs2, fmax, fmin, recip};
 use root::sqrt::sqrt;
 
 // The rotation of cosine c and sine s.
-#[derive(Drop)]
+#[derive(Clone, Copy)]
 pub struct JacobiRotation {
     pub c: f64,
     pub s: f64,
 }
 
 // A rotation, with the r that it makes of p and q.
-#[derive(Drop)]
+#[derive(Clone, Copy)]
 pub struct RotationWith {
     pub rot: JacobiRotation,
     pub r: f64,
 }
 
 // Two numbers of one row.
-#[derive(Drop)]
+#[derive(Clone, Copy)]
 pub struct Pair {
     pub x: f64,
     pub y: f64,

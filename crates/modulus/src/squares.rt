@@ -3,21 +3,21 @@ ghost use Rattle.std.specs.Prelude.{◌≡◌, ◌/◌, ◌%◌, ◌<◌, ◌≤
 ghost use Rattle.modulus.specs.Modulus.{Square, Sum, Fitted};
 
 // A whole number in two limbs.
-#[derive(Drop)]
+#[derive(Clone, Copy)]
 pub struct Wide {
     pub high: u64,
     pub low: u64,
 }
 
 // A number cut at 2^s.
-#[derive(Drop)]
+#[derive(Clone, Copy)]
 pub struct Parted {
     pub above: u64,
     pub below: u64,
 }
 
 // The whole part of a sum of squares, and what is left of it.
-#[derive(Drop)]
+#[derive(Clone, Copy)]
 pub struct WithRest {
     pub high: u64,
     pub low: u64,
@@ -25,7 +25,7 @@ pub struct WithRest {
 }
 
 // The same, cut by `power` pairs of digits.
-#[derive(Drop)]
+#[derive(Clone, Copy)]
 pub struct Normal {
     pub high: u64,
     pub low: u64,

@@ -15,7 +15,7 @@ use Rattle.model.specs.Exchange.{standardise_if, exchange_whole, exchange}
 use Rattle.form.specs.Run.{Rows}
 use Rattle.swaps.specs.Done.{Done, Step}
 use Rattle.laws.proofs.Runs.{swaps_then, declined_then}
-use Rattle.laws_exchange.specs.Loop.{Small, small, Working, round, rounds, start, Sizes}
+use Rattle.laws_exchange.specs.Loop.{Small, small, Working, round, rounds, Sizes}
 use Rattle.laws_exchange.proofs.Parts.{is-two, none_apart}
 use Rattle.laws_exchange.proofs.Counts.{standard-runs}
 use Rattle.laws_exchange.proofs.Loop.{pairs, Fit, one-pair, four_pairs, a_pair_each, upper_pairs, lower_pairs, rounds-end, rounds_on, round-upper, round-lower, round_whole, loop_is_exchange}

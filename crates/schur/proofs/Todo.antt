@@ -6,7 +6,6 @@ use native.Mathlib.Omega.{arith}
 use mathlib.Core.List.{List, [], ◌∷◌}
 use lib.ListN.{length, get_or, set, length-set}
 use lib.Seq.{get_or-set_same, get_or-set_other}
-use Rattle.laws_exchange.specs.Loop as Loop
 use Rattle.schur.specs.declared.exchange.Small.{Small}
 use Rattle.schur.specs.Todo.{seen, waiting}
 

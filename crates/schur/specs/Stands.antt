@@ -1,5 +1,5 @@
 -- How far the code of a move has come, against model's own account of it. Assumes nothing.
-use Rattle.std.specs.Prelude.{◌≡◌, cond, ℕ, ◌+◌, ◌*◌, ◌≤◌, ◌<◌, List, eqb, length, Float}
+use Rattle.std.specs.Prelude.{◌≡◌, cond, ℕ, ◌+◌, ◌≤◌, List, eqb, length, Float}
 use Rattle.model.specs.Move as Move
 use Rattle.swaps.specs.Done.{Step}
 use Rattle.schur.specs.declared.moving.Moving.{Moving}

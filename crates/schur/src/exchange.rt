@@ -16,14 +16,14 @@ use swaps::swap_12::{schur_swap_12, schur_swap_21};
 use swaps::swap_22::schur_swap_22;
 
 // How many runs of the four swap routines there were, and how many of them declined.
-#[derive(Drop)]
+#[derive(Clone, Copy)]
 pub struct Counts {
     pub swaps: usize,
     pub declined: usize,
 }
 
 // A small exchange still to do: the n1 rows from row `row` on with the n2 below them.
-#[derive(Drop)]
+#[derive(Clone, Copy)]
 pub struct Small {
     pub row: usize,
     pub n1: usize,

@@ -1,4 +1,6 @@
 // Offered: reordering a real Schur form, `swap::schur_swap` and `reorder::reorder_schur`.
+#![tactic(auto)]
+
 mod exchange;
 mod moving;
 pub mod reorder;

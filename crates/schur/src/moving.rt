@@ -10,7 +10,7 @@ use form::blocks::{size_above, size_at, zero_below};
 
 // The moved block's row, nbf (1 for one row, 2 for a 2-block, 3 for a 2-block that has split and
 // goes on as two rows), and the counts so far.
-#[derive(Drop)]
+#[derive(Clone, Copy)]
 pub struct Moving {
     pub here: usize,
     pub nbf: usize,

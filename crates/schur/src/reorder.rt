@@ -59,7 +59,7 @@ fn move_from(t: &mut [f64], u: &mut [f64], ld: usize, n: usize, from: usize, to:
 
 // The answer of a move: 0 with the row it landed on and the counts, or the number of the line that
 // turned it away and zeros.
-#[derive(Drop)]
+#[derive(Clone, Copy)]
 pub struct Moved {
     pub answer: usize,
     pub landed: usize,

@@ -9,7 +9,7 @@ use form::lines::exchange_line;
 
 // The answer of an exchange: 0 with the counts, or the number of the line that turned it away and
 // zeros.
-#[derive(Drop)]
+#[derive(Clone, Copy)]
 pub struct Exchanged {
     pub answer: usize,
     pub swaps: usize,

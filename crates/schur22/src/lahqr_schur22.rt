@@ -8,14 +8,14 @@ use arith::real::{EPS, abs, abs2, fmax, fmin, mul_pow2, recip};
 use root::sqrt::sqrt;
 
 // A real pair, or a complex pair: both diagonal numbers and the imaginary size.
-#[derive(Drop)]
+#[derive(Clone, Copy)]
 pub enum Eigenvalues {
     Real(f64, f64),
     Complex(f64, f64, f64),
 }
 
 // The number and the values of such a pair: 0, and the real and the imaginary part of each.
-#[derive(Drop)]
+#[derive(Clone, Copy)]
 pub struct Values {
     pub answer: usize,
     pub re1: f64,
@@ -25,7 +25,7 @@ pub struct Values {
 }
 
 // The four numbers, with the rotation that made them.
-#[derive(Drop)]
+#[derive(Clone, Copy)]
 pub struct Block {
     pub a: f64,
     pub b: f64,
@@ -36,14 +36,14 @@ pub struct Block {
 }
 
 // A block made standard, and its pair.
-#[derive(Drop)]
+#[derive(Clone, Copy)]
 pub struct Standardised {
     pub block: Block,
     pub eigenvalues: Eigenvalues,
 }
 
 // What the rescaling brings within its bounds.
-#[derive(Drop)]
+#[derive(Clone, Copy)]
 struct Scaled {
     sigma: f64,
     temp: f64,

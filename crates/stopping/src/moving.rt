@@ -13,7 +13,7 @@ use tries::exchange::try_exchange;
 
 // The moved block's row, nbf (1 for one row, 2 for a 2-block, 3 for a 2-block that has split and goes
 // on as two rows), the counts so far, and whether a test has failed.
-#[derive(Drop)]
+#[derive(Clone, Copy)]
 pub struct Going {
     pub here: usize,
     pub nbf: usize,

@@ -67,7 +67,7 @@ fn walk_from(t: &mut [f64], u: &mut [f64], ld: usize, n: usize, from: usize, to:
 
 // The answer of a move that stops: 0 with whether it has stopped, the row of the moved block and the
 // counts, or the number of the line that turned it away, false and zeros.
-#[derive(Drop)]
+#[derive(Clone, Copy)]
 pub struct Stopped {
     pub answer: usize,
     pub stopped: bool,

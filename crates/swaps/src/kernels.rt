@@ -8,14 +8,14 @@ ghost use Rattle.swaps.specs.View.{triple, quad, reflection3, reflection4};
 
 use linalg::jacobi::{JacobiRotation, Pair, apply_on_the_right};
 
-#[derive(Drop)]
+#[derive(Clone, Copy)]
 pub struct Triple {
     pub x0: f64,
     pub x1: f64,
     pub x2: f64,
 }
 
-#[derive(Drop)]
+#[derive(Clone, Copy)]
 pub struct Quad {
     pub x0: f64,
     pub x1: f64,
@@ -24,7 +24,7 @@ pub struct Quad {
 }
 
 // Two reflections of three numbers, the second of the last two.
-#[derive(Drop)]
+#[derive(Clone, Copy)]
 pub struct Reflectors3 {
     pub tau1: f64,
     pub v11: f64,
@@ -34,7 +34,7 @@ pub struct Reflectors3 {
 }
 
 // Two reflections of four numbers, the second of the last three.
-#[derive(Drop)]
+#[derive(Clone, Copy)]
 pub struct Reflectors4 {
     pub tau1: f64,
     pub v11: f64,

@@ -1,4 +1,6 @@
 // Inside (`schur`, `tries`, `stopping`): the four swaps of neighbouring blocks, and a 2-block standardised in place.
+#![tactic(auto)]
+
 mod columns;
 pub mod kernels;
 pub mod operations;

@@ -8,7 +8,7 @@ ghost use Rattle.sylvester.specs.View.{pivot, solution, sylvester};
 use arith::real::{EPS, MIN_POSITIVE, abs, fmax, recip};
 
 // x and scale, with tl * x - x * tr = scale * b.
-#[derive(Drop)]
+#[derive(Clone, Copy)]
 pub struct Sylvester {
     pub x00: f64,
     pub x10: f64,
@@ -18,7 +18,7 @@ pub struct Sylvester {
 }
 
 // The largest magnitude found so far, and where.
-#[derive(Drop)]
+#[derive(Clone, Copy)]
 struct Pivot {
     xmax: f64,
     row: usize,
@@ -26,7 +26,7 @@ struct Pivot {
 }
 
 // Four numbers at a scale: a right-hand side or a solution.
-#[derive(Drop)]
+#[derive(Clone, Copy)]
 struct Solution {
     x: [f64; 4],
     scale: f64,

@@ -1,0 +1,22 @@
+-- `swaps::operations::reflect4_factor` meets its contract. Assumes nothing.
+use native.Mathlib.Nat.{le_refl}
+use borrow.Author.Tests.{eq-eqb, ne_eqb}
+use Rattle.model.specs.Columns.{reflect4_run, on_columns}
+use Rattle.model.specs.Exchange.{factor_rows}
+use Rattle.form.proofs.Runs.{cols, present}
+use Rattle.swaps.proofs.operations.reflect4_factor.Goals as goal
+
+pub returns-then-u-eq0 : goal.returns-then-u-eq0
+unfolding on_columns factor_rows reflect4_run
+returns-then-u-eq0 c = rw (eq-eqb _ _ c.if-u-eq0.true)
+
+pub reflect4_run-requires : goal.reflect4_run-requires
+reflect4_run-requires c =
+    let h = c.requires in
+    let z = present h.0 h.1 h.2 h.3 c.if-u-eq0.false in
+    (cols z h.4 (le_refl _) c.place-q0.ensures.0, cols z h.5 (le_refl _) c.place-q1.ensures.0, cols z h.6 (le_refl _) c.place-q2.ensures.0, cols z h.7 (le_refl _) c.place-q3.ensures.0)
+
+pub returns : goal.returns
+unfolding on_columns factor_rows
+returns c =
+    rw (ne_eqb _ _ c.if-u-eq0.false, c.reflect4_run.ensures, c.place-q0.ensures.0, c.place-q1.ensures.0, c.place-q2.ensures.0, c.place-q3.ensures.0)

@@ -1,0 +1,5 @@
+use Rattle.swaps.proofs.swap_11.form_11.Goals as goal
+
+pub returns : goal.returns
+returns c =
+    rw (c.rotate_form.ensures, c.put-2.ensures, c.put.ensures, c.get-t11.ensures, c.get-t00.ensures)

@@ -1,0 +1,14 @@
+-- `swaps::swap_12::schur_swap_12` meets its contract. Assumes nothing.
+use Rattle.model.specs.Columns.{on_factor}
+use Rattle.model.specs.Swaps.{swap12}
+use native.Mathlib.Omega.{arith}
+use Rattle.swaps.proofs.swap_12.schur_swap_12.Goals as goal
+
+pub reflect3_factor-requires : goal.reflect3_factor-requires
+reflect3_factor-requires c =
+    let h = c.requires in let k = h.2 in let m = h.0 in (h.1, m.small, m.fits, m.near, omega arith, omega arith, omega arith)
+
+pub returns : goal.returns
+unfolding swap12 on_factor
+returns c =
+    record { form = rw (c.form_12.ensures, c.reflectors_12-v.ensures); factor = rw (c.reflect3_factor.ensures, c.reflectors_12-v.ensures) }

@@ -1,0 +1,41 @@
+-- `tries::exchange::try_exchange` meets its contract. Assumes nothing.
+use mathlib.Core.Bool.{true, false}
+use mathlib.Core.Path.{refl, sym, ◌∙◌}
+use native.Mathlib.Omega.{arith}
+use Rattle.model.specs.Stopping.{test_fails}
+use Rattle.form.proofs.Runs.{resized, still}
+use Rattle.tries.proofs.Tries.{one1, one2, failed, passed, whole, single}
+use Rattle.tries.proofs.exchange.try_exchange.Goals as goal
+
+pub returns-then-n1-n2-eq2 : goal.returns-then-n1-n2-eq2
+unfolding test_fails
+returns-then-n1-n2-eq2 c =
+    rw (one1 c.requires.2 c.if-n1-n2-eq2.true, one2 c.requires.2 c.if-n1-n2-eq2.true) (whole _ _ _ 1 1 _ false (single _ _ _ _ c.schur_swap_11.ensures c.schur_swap_11.auto.u) refl)
+
+pub returns-then-try_swap : goal.returns-then-try_swap
+returns-then-try_swap c =
+    let w = c.try_swap in
+    let h = sym w.ensures.1 ∙ c.if-try_swap.true in
+    whole _ _ _ _ _ _ true (failed _ _ _ _ _ _ h w.ensures.0) (sym h)
+
+pub standardise_also-requires : goal.standardise_also-requires
+standardise_also-requires c =
+    let h = c.requires in
+    let k = c.try_swap.auto in
+    let r = h.2 in
+    (resized h.0 k.t, still h.1 k.u, omega arith)
+
+pub standardise_also-requires-2 : goal.standardise_also-requires-2
+standardise_also-requires-2 c =
+    let h = c.requires in
+    let k = c.try_swap.auto in
+    let m = c.standardise_also.auto in
+    let r = h.2 in
+    (resized h.0 (m.t ∙ k.t), still h.1 (m.u ∙ k.u), omega arith)
+
+pub returns : goal.returns
+returns c =
+    let w = c.try_swap in
+    let h = sym w.ensures.1 ∙ c.if-try_swap.false in
+    let a = c.standardise_also in
+    whole _ _ _ _ _ _ false (passed _ _ _ _ _ _ h w.ensures.0 w.auto.u a.ensures a.auto.u c.standardise_also-2.ensures) (sym h)
