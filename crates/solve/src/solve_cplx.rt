@@ -13,7 +13,7 @@ use arith::real::{EPS, abs2, mul_pow2};
 use form::place;
 
 // A complex number.
-#[derive(Drop)]
+#[derive(Clone, Copy)]
 struct Complex {
     pub re: f64,
     pub im: f64,
