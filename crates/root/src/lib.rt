@@ -1,2 +1,4 @@
 // Offered: the square root.
+#![tactic(auto)]
+
 pub mod sqrt;

@@ -25,7 +25,7 @@ pub struct Values {
 }
 
 // The four numbers, with the rotation that made them.
-#[derive(Drop)]
+#[derive(Clone, Copy)]
 pub struct Block {
     pub a: f64,
     pub b: f64,
@@ -43,7 +43,7 @@ pub struct Standardised {
 }
 
 // What the rescaling brings within its bounds.
-#[derive(Drop)]
+#[derive(Clone, Copy)]
 struct Scaled {
     sigma: f64,
     temp: f64,

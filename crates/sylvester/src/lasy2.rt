@@ -18,7 +18,7 @@ pub struct Sylvester {
 }
 
 // The largest magnitude found so far, and where.
-#[derive(Drop)]
+#[derive(Clone, Copy)]
 struct Pivot {
     xmax: f64,
     row: usize,

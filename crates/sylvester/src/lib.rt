@@ -1,2 +1,4 @@
 // Offered: the small Sylvester solve, by value.
+#![tactic(auto)]
+
 pub mod lasy2;
