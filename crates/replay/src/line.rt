@@ -3,11 +3,11 @@ ghost use Rattle.std.specs.Prelude.{◌≡◌, ◌+◌, ◌^◌, ◌<◌};
 ghost use Rattle.replay.specs.Replayed as Replayed;
 
 use crate::table;
-use libc::STDOUT_FILENO;
 use replay_text::count::{refuse, tally};
 use replay_text::name::{ROWS, call_named, name_end};
 use replay_text::outcome::Outcome;
 use replay_text::word::{Found, words};
+use std::io;
 
 // How many bytes of a line are to be told: its name and its index if it differs.
 fn told(end: usize, outcome: Outcome) -> usize
@@ -29,8 +29,8 @@ pub fn replay(
     runs: &mut [u64; ROWS],
     differ: &mut [u64; ROWS],
 ) -> usize
-    ensures { (record { told = result; desk = record { words = room.new; counts = record { runs = runs.exit.now; differ = differ.new } } })
-        ≡ Replayed.replayed line.now (record { words = room.old; counts = record { runs = runs.entry.now; differ = differ.old } }) }
+    ensures { (record { told = result; desk = record { words = room.new; counts = record { runs = runs.new; differ = differ.new } } })
+        ≡ Replayed.replayed line.now (record { words = room.old; counts = record { runs = runs.old; differ = differ.old } }) }
 {
     let end = name_end(line);
     let call = call_named(&line[..end]);
@@ -48,11 +48,11 @@ pub fn replay(
 }
 
 // Writes the name and the index of a line that came out otherwise, and nothing where there are none.
-pub fn tell(head: &[u8]) {
+pub fn tell(out: &impl Print, head: &[u8]) -> io::Result<()> {
     if head.len() == 0 {
-        return;
+        return Ok(());
     }
-    io::write_all(STDOUT_FILENO, b"differs: ");
-    io::write_all(STDOUT_FILENO, head);
-    io::write_all(STDOUT_FILENO, b"\n");
+    out.write_all(b"differs: ")?;
+    out.write_all(head)?;
+    out.write_all(b"\n")
 }

@@ -8,9 +8,10 @@ mod table;
 ghost use Rattle.std.specs.Prelude.{◌≡◌, length, replicate};
 ghost use Rattle.replay.specs.Replayed as Replayed;
 
-use libc::STDIN_FILENO;
 use replay_text::count::refuse;
 use replay_text::name::ROWS;
+use std::io;
+use std::io::Read;
 
 // Room for a line with two forms and two factors of 64 columns, 128 places apart.
 fn line_buffer() -> [u8; 600000]
@@ -27,8 +28,9 @@ fn word_buffer() -> [u64; 33000]
 }
 
 // Takes one byte of input: a line of `len` bytes grows, or ends and is run. A line that fills the
-// buffer is no line of a call.
+// buffer is no line of a call. A line that cannot be told is counted all the same.
 fn take_byte(
+    out: &impl Print,
     b: u8,
     len: usize,
     line: &mut [u8],
@@ -36,13 +38,13 @@ fn take_byte(
     runs: &mut [u64; ROWS],
     differ: &mut [u64; ROWS],
 ) -> usize
-    ensures { (record { line = line.exit.now; len = result; desk = record { words = words.exit.now; counts = record { runs = runs.exit.now; differ = differ.new } } })
-        ≡ Replayed.taken b (record { line = line.entry.now; len = len; desk = record { words = words.entry.now; counts = record { runs = runs.entry.now; differ = differ.old } } }) }
+    ensures { (record { line = line.new; len = result; desk = record { words = words.new; counts = record { runs = runs.new; differ = differ.new } } })
+        ≡ Replayed.taken b (record { line = line.old; len = len; desk = record { words = words.old; counts = record { runs = runs.old; differ = differ.old } } }) }
 {
     if b == b'\n' {
         if len < line.len() {
             let told = line::replay(&line[..len], words, runs, differ);
-            line::tell(&line[..told]);
+            let _ = line::tell(out, &line[..told]);
             return 0;
         }
         refuse(runs);
@@ -57,6 +59,7 @@ fn take_byte(
 
 // Takes the bytes of a chunk, and answers how many bytes the line has that is not ended.
 fn take_bytes(
+    out: &impl Print,
     chunk: &[u8],
     len: usize,
     line: &mut [u8],
@@ -64,43 +67,54 @@ fn take_bytes(
     runs: &mut [u64; ROWS],
     differ: &mut [u64; ROWS],
 ) -> usize
-    ensures { (record { line = line.exit.now; len = result; desk = record { words = words.exit.now; counts = record { runs = runs.exit.now; differ = differ.new } } })
-        ≡ Replayed.taken_all chunk.now (record { line = line.entry.now; len = len; desk = record { words = words.entry.now; counts = record { runs = runs.entry.now; differ = differ.old } } }) }
+    ensures { (record { line = line.new; len = result; desk = record { words = words.new; counts = record { runs = runs.new; differ = differ.new } } })
+        ≡ Replayed.taken_all chunk.now (record { line = line.old; len = len; desk = record { words = words.old; counts = record { runs = runs.old; differ = differ.old } } }) }
 {
     let mut len = len;
     let mut i = 0;
     while i < chunk.len() {
-        len = take_byte(chunk[i], len, line, words, runs, differ);
+        len = take_byte(out, chunk[i], len, line, words, runs, differ);
         i += 1;
     }
     len
 }
 
-// Takes the input to its end, and answers how many bytes the line has that is not ended. What is
-// read cannot be promised: some input leads from the state at entry to the one at exit. A proved
-// loop has to end, and nothing says that the input does: so the turns are counted down, from a
-// number that no run uses up.
+// How the input ended: how many bytes the line has that is not ended, and whether a read failed.
+#[derive(Drop)]
+struct Ended {
+    len: usize,
+    read: io::Result<()>,
+}
+
+// Takes the input to its end, or to a read that fails. What is read cannot be promised: some input
+// leads from the state at entry to the one at exit. A proved loop has to end, and nothing says that
+// the input does: so the turns are counted down, from a number that no run uses up.
 fn take_input(
+    input: &mut impl Read,
+    out: &impl Print,
     line: &mut [u8],
     words: &mut [u64],
     runs: &mut [u64; ROWS],
     differ: &mut [u64; ROWS],
-) -> usize
-    ensures { Replayed.Leads (record { line = line.entry.now; len = 0; desk = record { words = words.entry.now; counts = record { runs = runs.entry.now; differ = differ.old } } })
-        (record { line = line.exit.now; len = result; desk = record { words = words.exit.now; counts = record { runs = runs.exit.now; differ = differ.new } } }) }
+) -> Ended
+    ensures { Replayed.Leads (record { line = line.old; len = 0; desk = record { words = words.old; counts = record { runs = runs.old; differ = differ.old } } })
+        (record { line = line.new; len = result.len; desk = record { words = words.new; counts = record { runs = runs.new; differ = differ.new } } }) }
 {
     let mut len = 0;
     let mut turns = u64::MAX;
     while turns > 0 {
-        let mut chunk = io::large_buffer();
-        let n = io::read_full(STDIN_FILENO, &mut chunk);
+        let mut chunk = [0u8; 65536];
+        let n = match input.read(&mut chunk) {
+            Ok(n) => n,
+            Err(e) => return Ended { len, read: Err(e) },
+        };
         if n == 0 {
-            return len;
+            return Ended { len, read: Ok(()) };
         }
-        len = take_bytes(&chunk[..n], len, line, words, runs, differ);
+        len = take_bytes(out, &chunk[..n], len, line, words, runs, differ);
         turns -= 1;
     }
-    len
+    Ended { len, read: Ok(()) }
 }
 
 // At the input's end, a line that is not ended is no line of a call.
@@ -112,12 +126,20 @@ fn close(len: usize, runs: &mut [u64; ROWS])
     }
 }
 
-fn main() {
+fn main(rt: HostRuntime) -> io::Result<()> {
     let mut line = line_buffer();
     let mut words = word_buffer();
     let mut runs = [0u64; ROWS];
     let mut differ = [0u64; ROWS];
-    let len = take_input(&mut line, &mut words, &mut runs, &mut differ);
-    close(len, &mut runs);
-    report::report(&runs, &differ);
+    let ended = take_input(
+        &mut rt.stdin(),
+        &rt,
+        &mut line,
+        &mut words,
+        &mut runs,
+        &mut differ,
+    );
+    close(ended.len, &mut runs);
+    report::report(&rt, &runs, &differ)?;
+    ended.read
 }

@@ -3,9 +3,9 @@
 ghost use Rattle.std.specs.Prelude.{◌≡◌};
 ghost use Rattle.replay.specs.Report as Report;
 
-use libc::STDOUT_FILENO;
 use replay_text::count::total;
 use replay_text::name::{CALLS, ROWS, name_of};
+use std::io;
 
 // The name of a row: a call's, and after the calls that of the sums.
 fn title(row: usize) -> [u8; 28]
@@ -28,20 +28,17 @@ fn number(of: &[u64; ROWS], row: usize) -> u64
 }
 
 // Writes a row.
-fn write_row(name: &[u8; 28], run: u64, differ: u64) {
-    io::write_all(STDOUT_FILENO, name);
-    io::print_decimal(STDOUT_FILENO, run);
-    io::write_all(STDOUT_FILENO, b" run, ");
-    io::print_decimal(STDOUT_FILENO, differ);
-    io::write_all(STDOUT_FILENO, b" differ\n");
+fn write_row(out: &impl Print, name: &[u8; 28], run: u64, differ: u64) -> io::Result<()> {
+    out.write_all(name)?;
+    println!(out; "{run} run, {differ} differ")
 }
 
 // Writes a row of each call, one of the sums, and how many lines were no line of a call.
-pub fn report(runs: &[u64; ROWS], differ: &[u64; ROWS]) {
+pub fn report(out: &impl Print, runs: &[u64; ROWS], differ: &[u64; ROWS]) -> io::Result<()> {
     for row in 0..ROWS {
         let name = title(row);
-        write_row(&name, number(runs, row), number(differ, row));
+        write_row(out, &name, number(runs, row), number(differ, row))?;
     }
-    io::print_decimal(STDOUT_FILENO, runs[CALLS]);
-    io::write_all(STDOUT_FILENO, b" lines are no line of a call\n");
+    let refused = runs[CALLS];
+    println!(out; "{refused} lines are no line of a call")
 }

@@ -9,7 +9,7 @@ use crate::vectors::same_vectors;
 use replay_text::outcome::{Outcome, judge};
 
 // The call that a line is of.
-#[derive(Drop)]
+#[derive(Clone, Copy)]
 pub enum Call {
     Move,
     Stopping,

@@ -48,7 +48,7 @@ fn values_by(
     re: &mut [f64],
     im: &mut [f64],
 ) -> usize
-    ensures { (record { answer = result; parts = record { re = re.exit.now; im = im.new } }) ≡ Values.values_read binary64 (reading standardise) ld n t.now (record { re = re.entry.now; im = im.old }) }
+    ensures { (record { answer = result; parts = record { re = re.new; im = im.new } }) ≡ Values.values_read binary64 (reading standardise) ld n t.now (record { re = re.old; im = im.old }) }
 {
     if standardise {
         return values::blocks::standardised_values(n, ld, t, re, im);

@@ -1,8 +1,7 @@
 -- What the words that were found say of the line and of the buffer. Assumes nothing.
-use Rattle.std.proofs.Common.{◌≡◌, ℕ, zero, suc, ◌+◌, ◌*◌, ◌≤◌, Bool, true, false, ltb, List, length, set, sym, refl, ap, ◌∙◌, arith, length-set, ltb-false, ltb-true}
-use Rattle.replay_text.specs.Text.{Read, word_at, words_from, words_of}
+use Rattle.std.proofs.Common.{◌≡◌, ℕ, zero, suc, ◌+◌, ◌*◌, ◌≤◌, Bool, true, false, ltb, List, length, set, refl, arith, ltb-false}
+use Rattle.replay_text.specs.Text.{word_at, words_from, words_of}
 use Rattle.replay_text.specs.declared.word.Word.{Word}
-use Rattle.replay_text.specs.declared.word.Word.TheVariants as Word
 use Rattle.replay_text.specs.declared.word.Found.TheVariants as Found
 
 -- a word that is there lies inside the line

@@ -1,4 +1,3 @@
 pub mod Found
 pub mod Words
-pub mod Past
 pub mod Names

@@ -2,7 +2,6 @@
 use Rattle.std.specs.Prelude.{ℕ, zero, suc, ◌+◌, ◌%◌, ◌^◌, List, slice_index, slice_set}
 use Rattle.replay_text.specs.Names.{calls}
 use Rattle.replay_text.specs.declared.outcome.Outcome.{Outcome}
-use Rattle.replay_text.specs.declared.outcome.Outcome.TheVariants as Outcome
 
 -- a row of each call, and in `runs` one of the lines that are no line of a call
 pub record Counts : Type 0 where

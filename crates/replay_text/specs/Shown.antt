@@ -2,7 +2,6 @@
 use Rattle.std.specs.Prelude.{ℕ, Bool, cond, List, map, take, drop, from_bits, Float}
 use Rattle.std.specs.Float.{binary64}
 use Rattle.replay_text.specs.declared.outcome.Outcome.{Outcome}
-use Rattle.replay_text.specs.declared.outcome.Outcome.TheVariants as Outcome
 
 -- of a line that has the call's words or not, and whose results are the expected ones or not
 abbrev pub judged : Bool → Bool → Outcome

@@ -1,9 +1,7 @@
 -- What the text of a stored vector says. Definitions only. Assumes nothing.
 use Rattle.std.specs.Prelude.{ℕ, zero, suc, ◌+◌, ◌-◌, ◌*◌, cond, List, length, ◌==◌, nat_le, nat_lt, slice_index, slice_set}
 use Rattle.replay_text.specs.declared.word.Word.{Word}
-use Rattle.replay_text.specs.declared.word.Word.TheVariants as Word
 use Rattle.replay_text.specs.declared.word.Found.{Found}
-use Rattle.replay_text.specs.declared.word.Found.TheVariants as Found
 
 -- the value of a lowercase hexadecimal digit, and 16 of any other byte
 unfoldable pub digit_of : ℕ → ℕ

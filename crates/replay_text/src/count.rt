@@ -25,7 +25,7 @@ pub fn refuse(runs: &mut [u64; ROWS])
 // Counts a line of a call by its outcome.
 pub fn tally(call: usize, outcome: Outcome, runs: &mut [u64; ROWS], differ: &mut [u64; ROWS])
     requires { call < 31 }
-    ensures { (record { runs = runs.exit.now; differ = differ.new }) ≡ Counts.tallied call outcome (record { runs = runs.entry.now; differ = differ.old }) }
+    ensures { (record { runs = runs.new; differ = differ.new }) ≡ Counts.tallied call outcome (record { runs = runs.old; differ = differ.old }) }
 {
     match outcome {
         Outcome::Same => count(runs, call),

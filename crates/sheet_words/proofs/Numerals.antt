@@ -1,58 +1,34 @@
--- The digits that io writes are those of the definitions. Assumes nothing.
-use mathlib.Core.Path.{◌≡◌, refl}
-use mathlib.Core.Bool.{Bool, true, false}
-use Prim.Native.Nat.{ℕ, zero, suc, ◌+◌, ◌-◌, ◌*◌, ◌/◌, ◌%◌, ◌^◌, ◌≤◌, ◌<◌}
-use native.Mathlib.Nat.{mod-lt, mod-eq_of_lt, div-lt_iff_lt-mul, le-div_iff_mul-le, pow-le-pow_right}
-use native.Mathlib.Omega.{arith}
-use lib.Dec.{leb}
-use borrow.Author.Tests.{lt-ltb, le-ltb, leb-true, leb-false}
-use Rattle.io.specs.Digits.{last_digits, IsDigitCount}
-use Rattle.model.specs.Text.{glyph, decimal_in, hex_in, word}
+-- The digits that are written are those of the definitions. Assumes nothing.
+use Rattle.std.proofs.Common.{◌≡◌, ℕ, zero, suc, ◌-◌, ◌*◌, length, drop, set, append_assoc, add-one, ◌/◌, ◌%◌, ◌^◌, ◌≤◌, ◌<◌, Bool, true, false, ltb, List, ◌++◌, refl, arith, div-lt_iff_lt-mul, lt-ltb, ltb-true, ltb-false}
+use Rattle.std.proofs.lemmas.Fmt.{decimal_digit, decimal_step}
+use Rattle.std.proofs.lemmas.List.{drop-set}
+use Rattle.std.specs.Fmt as Fmt
+use Rattle.model.specs.Text.{glyph, decimal_in, hex_in}
 
--- a decimal digit's byte
-glyph_decimal : (d : ℕ) → d < 10 → glyph d ≡ 48 + d
-glyph_decimal d h = rw (lt-ltb d 10 h)
-
-pow_pos : (k : ℕ) → zero < 10 ^ k
-pow_pos zero = omega arith
-pow_pos (suc k) = omega (arith, pow_pos k)
-
--- the fewest digits in base 10 are the decimal
-pub fewest : (j k n : ℕ) → IsDigitCount 10 1 n k → k ≤ j → last_digits 10 k n ≡ decimal_in j n
+-- what is printed in decimal is the decimal, where it has at most so many digits
+pub decimal_is : (j n : ℕ) → n < 10 ^ suc j → n < 2 ^ 64 → Fmt.decimal n ≡ decimal_in (suc j) n
 unfolding decimal_in
-fewest j zero n f h = absurd (omega (arith, f.0))
-fewest zero (suc k) n f h = absurd (omega arith)
-fewest (suc j) (suc zero) n f h =
-    let l : n < 10 = f.1 in
-    rw (lt-ltb n 10 l, mod-eq_of_lt l, glyph_decimal n l)
-fewest (suc j) (suc (suc k)) n f h =
-    let e : suc (suc k) - 1 ≡ suc k = omega arith in
-    let b : 10 ^ suc k ≤ n = rw e at (f.2 (omega arith)) in
-    let p : 10 ^ k * 10 ≤ n = omega arith in
-    let g : n < 10 ^ suc k * 10 = omega (arith, f.1) in
-    let t : 10 ≤ n = omega (arith, pow_pos k) in
-    let l : n / 10 < 10 ^ suc k = (div-lt_iff_lt-mul {k = 10} {x = n} {y = 10 ^ suc k} (omega arith)).1 g in
-    let m : 10 ^ k ≤ n / 10 = (le-div_iff_mul-le {k = 10} {x = 10 ^ k} {y = n} (omega arith)).1 p in
-    let e2 : suc k - 1 ≡ k = omega arith in
-    rw (le-ltb n 10 t, ← fewest j (suc k) (n / 10) (omega arith, l, λ _. rw e2 m) (omega arith), glyph_decimal (n % 10) (mod-lt n (omega arith)))
-
--- j digits hold n, so the fewest are at most j
-pub at_most : (b least j k n : ℕ) → zero < b → least ≤ j → n < b ^ j → IsDigitCount b least n k → k ≤ j
-at_most b least j k n pos h g f = by (leb k j) refl
+decimal_is zero n h g = rw (lt-ltb n 10 (omega arith), decimal_digit n (omega arith))
+decimal_is (suc j) n h g = by (λ q. decimal_is j (n / 10) q (omega arith)) (ltb n 10) refl
   where
-    by : (t : Bool) → leb k j ≡ t → k ≤ j
-    by true e = leb-true k j e
-    by false e =
-        let l : j < k = leb-false k j e in
-        let m : j ≤ k - 1 = omega arith in
-        absurd (omega (arith, pow-le-pow_right {n = b} pos {i = j} {j = k - 1} m, f.2 (omega arith)))
+    by : (n / 10 < 10 ^ suc j → Fmt.decimal (n / 10) ≡ decimal_in (suc j) (n / 10)) → (b : Bool) → ltb n 10 ≡ b → Fmt.decimal n ≡ decimal_in (suc (suc j)) n
+    by shorter true e = rw e (decimal_digit n (ltb-true n 10 e))
+    by shorter false e =
+        let p : n < 10 ^ suc j * 10 = omega arith in
+        let q : n / 10 < 10 ^ suc j = (div-lt_iff_lt-mul {k = 10} {x = n} {y = 10 ^ suc j} (omega arith)).1 p in
+        rw (e, decimal_step n (ltb-false n 10 e) g, shorter q)
 
-pub at_most_20 : (k n : ℕ) → n < 2 ^ 64 → IsDigitCount 10 1 n k → k ≤ 20
-at_most_20 k n h f = at_most 10 1 20 k n (omega arith) (omega arith) (omega arith) f
-
-pub sixteen : (k n : ℕ) → n < 2 ^ 64 → IsDigitCount 16 16 n k → k ≡ 16
-sixteen k n h f = omega (arith, at_most 16 16 16 k n (omega arith) (omega arith) (omega arith) f, f.0)
-
-pub hex_digits : (k w : ℕ) → k ≡ 16 → last_digits 16 k w ≡ word w
+-- one digit more, before those that are written
+pub hex_next : (ds : List ℕ) (i w d : ℕ) → 0 < i → i ≤ length ds → d ≡ glyph (w % 16)
+    → hex_in (i - 1) (w / 16) ++ drop (i - 1) (set ds (i - 1) d) ≡ hex_in i w ++ drop i ds
 unfolding hex_in
-hex_digits k w e = rw e
+hex_next ds zero w d h g e = absurd (omega arith)
+hex_next ds (suc i) w d h g e =
+    let k : suc i - 1 ≡ i = omega arith in
+    rw (k, drop-set ds i d (omega arith), append_assoc, e, add-one i)
+
+-- no digit is left
+pub hex_done : (ds : List ℕ) (i w : ℕ) (all : List ℕ) → i ≤ 0 → hex_in i w ++ drop i ds ≡ all → ds ≡ all
+unfolding hex_in
+hex_done ds zero w all h e = e
+hex_done ds (suc i) w all h e = absurd (omega arith)

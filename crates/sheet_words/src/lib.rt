@@ -1,4 +1,6 @@
 // Inside (`sheet_text`): the words of a sheet's text, numbers and words read and printed.
+#![tactic(auto)]
+
 pub mod float;
 pub mod print;
 pub mod read;

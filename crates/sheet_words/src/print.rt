@@ -1,6 +1,6 @@
 // Printing: each function writes at a place of `out` and answers the place after what it wrote. What
 // stands before and after it stays.
-ghost use Rattle.std.specs.Prelude.{◌≡◌, ◌+◌, ◌*◌, ◌≤◌, length};
+ghost use Rattle.std.specs.Prelude.{◌≡◌, ◌+◌, ◌*◌, ◌<◌, ◌≤◌, length};
 ghost use Rattle.model.specs.Text as Text;
 ghost use Rattle.sheet_words.specs.Put.{Put};
 
@@ -23,8 +23,19 @@ fn put_decimal(out: &mut [u8], at: usize, n: u64) -> usize
     ensures { (result ≤ at + 20) × Put out.old at (Text.decimal n) out.new result }
 {
     let mut digits = [0u8; 20];
-    let k = io::decimal(n, &mut digits);
-    put(out, at, &digits[..k])
+    let start = itoa::write_digits(n, &mut digits, 20);
+    put(out, at, &digits[start..])
+}
+
+// The byte of a hexadecimal digit.
+fn glyph(d: u64) -> u8
+    requires { d < 16 }
+    ensures { result ≡ Text.glyph d }
+{
+    if d < 10 {
+        return 48 + d as u8;
+    }
+    87 + d as u8
 }
 
 // A word.
@@ -33,8 +44,14 @@ fn put_word(out: &mut [u8], at: usize, w: u64) -> usize
     ensures { (result ≡ at + 16) × Put out.old at (Text.word w) out.new result }
 {
     let mut digits = [0u8; 16];
-    let k = io::hex(w, 16, &mut digits);
-    put(out, at, &digits[..k])
+    let mut left = w;
+    let mut i = 16;
+    while i > 0 {
+        i -= 1;
+        digits[i] = glyph(left % 16);
+        left /= 16;
+    }
+    put(out, at, &digits)
 }
 
 // The words after the first, with a space before each.

@@ -1,0 +1,27 @@
+-- `replay_text::word::digit` meets its contract, test by test. Assumes nothing.
+use Rattle.std.proofs.Common.{le-ltb, lt-ltb, le-leb}
+use borrow.Author.Tests.{lt-leb}
+use Rattle.replay_text.specs.Text.{digit_of}
+use Rattle.replay_text.proofs.word.digit.Goals as goal
+
+pub returns-then-b-lt48 : goal.returns-then-b-lt48
+unfolding digit_of
+returns-then-b-lt48 c = rw (lt-ltb _ _ c.if-b-lt48.true)
+
+pub returns-then-b-le57 : goal.returns-then-b-le57
+unfolding digit_of
+returns-then-b-le57 c = rw (le-ltb _ _ c.if-b-lt48.false, le-leb _ _ c.if-b-le57.true)
+
+pub returns-then-b-lt97 : goal.returns-then-b-lt97
+unfolding digit_of
+returns-then-b-lt97 c = rw (le-ltb _ _ c.if-b-lt48.false, lt-leb _ _ c.if-b-le57.false, lt-ltb _ _ c.if-b-lt97.true)
+
+pub returns-then-b-le102 : goal.returns-then-b-le102
+unfolding digit_of
+returns-then-b-le102 c =
+    rw (le-ltb _ _ c.if-b-lt48.false, lt-leb _ _ c.if-b-le57.false, le-ltb _ _ c.if-b-lt97.false, le-leb _ _ c.if-b-le102.true)
+
+pub returns : goal.returns
+unfolding digit_of
+returns c =
+    rw (le-ltb _ _ c.if-b-lt48.false, lt-leb _ _ c.if-b-le57.false, le-ltb _ _ c.if-b-lt97.false, lt-leb _ _ c.if-b-le102.false)
