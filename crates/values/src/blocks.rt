@@ -15,7 +15,7 @@ use solve::block::imag_size;
 // A 1-block in row j: its diagonal number and +0.
 fn one_value(ld: usize, n: usize, t: &[f64], j: usize, re: &mut [f64], im: &mut [f64])
     requires { Whole t.now ld n × (length re.old ≡ n) × (length im.old ≡ n) × (j < n) }
-    ensures { (record { re = re.exit.now; im = im.new }) ≡ Values.one_value binary64 ld t.now j (record { re = re.entry.now; im = im.old }) }
+    ensures { (record { re = re.new; im = im.new }) ≡ Values.one_value binary64 ld t.now j (record { re = re.old; im = im.old }) }
 {
     re[j] = t[place(ld, n, j, j)];
     im[j] = 0.0;
@@ -44,7 +44,7 @@ fn two_values(
     im: &mut [f64],
 )
     requires { Whole t.now ld n × (length re.old ≡ n) × (length im.old ≡ n) × (j + 1 < n) }
-    ensures { (record { re = re.exit.now; im = im.new }) ≡ Values.two_values binary64 (reading standardise) ld t.now j (record { re = re.entry.now; im = im.old }) }
+    ensures { (record { re = re.new; im = im.new }) ≡ Values.two_values binary64 (reading standardise) ld t.now j (record { re = re.old; im = im.old }) }
 {
     let a = t[place(ld, n, j, j)];
     let b = t[place(ld, n, j, j + 1)];
@@ -68,7 +68,7 @@ fn next_block(
     im: &mut [f64],
 ) -> usize
     requires { Whole t.now ld n × (length re.old ≡ n) × (length im.old ≡ n) × (j < n) }
-    ensures { (j < result) × (result ≤ n) × (Values.values_from binary64 (reading standardise) ld t.now (n - result) result (record { re = re.exit.now; im = im.new }) ≡ Values.values_from binary64 (reading standardise) ld t.now (n - j) j (record { re = re.entry.now; im = im.old })) }
+    ensures { (j < result) × (result ≤ n) × (Values.values_from binary64 (reading standardise) ld t.now (n - result) result (record { re = re.new; im = im.new }) ≡ Values.values_from binary64 (reading standardise) ld t.now (n - j) j (record { re = re.old; im = im.old })) }
 {
     if j + 1 == n {
         one_value(ld, n, t, j, re, im);
@@ -85,7 +85,7 @@ fn next_block(
 // The values of an accepted form.
 fn all_values(standardise: bool, ld: usize, n: usize, t: &[f64], re: &mut [f64], im: &mut [f64])
     requires { Whole t.now ld n × (length re.old ≡ n) × (length im.old ≡ n) }
-    ensures { (record { re = re.exit.now; im = im.new }) ≡ Values.values_from binary64 (reading standardise) ld t.now n 0 (record { re = re.entry.now; im = im.old }) }
+    ensures { (record { re = re.new; im = im.new }) ≡ Values.values_from binary64 (reading standardise) ld t.now n 0 (record { re = re.old; im = im.old }) }
 {
     let mut j = 0;
     while j < n {
@@ -116,7 +116,7 @@ fn values_read(
     re: &mut [f64],
     im: &mut [f64],
 ) -> usize
-    ensures { (record { answer = result; parts = record { re = re.exit.now; im = im.new } }) ≡ Values.values_read binary64 (reading standardise) ld n t.now (record { re = re.entry.now; im = im.old }) }
+    ensures { (record { answer = result; parts = record { re = re.new; im = im.new } }) ≡ Values.values_read binary64 (reading standardise) ld n t.now (record { re = re.old; im = im.old }) }
 {
     let line = values_line(ld, n, t, re.len(), im.len());
     if line != 0 {
@@ -129,14 +129,14 @@ fn values_read(
 // The real and the imaginary parts of the form's values, its 2-blocks read as they stand, or the
 // number of the first line that applies.
 pub fn block_values(n: usize, ld: usize, t: &[f64], re: &mut [f64], im: &mut [f64]) -> usize
-    ensures { (record { answer = result; parts = record { re = re.exit.now; im = im.new } }) ≡ Values.block_values binary64 ld n t.now (record { re = re.entry.now; im = im.old }) }
+    ensures { (record { answer = result; parts = record { re = re.new; im = im.new } }) ≡ Values.block_values binary64 ld n t.now (record { re = re.old; im = im.old }) }
 {
     values_read(false, n, ld, t, re, im)
 }
 
 // The same of a copy of each 2-block that is standardised first; the form is not written.
 pub fn standardised_values(n: usize, ld: usize, t: &[f64], re: &mut [f64], im: &mut [f64]) -> usize
-    ensures { (record { answer = result; parts = record { re = re.exit.now; im = im.new } }) ≡ Values.standardised_values binary64 ld n t.now (record { re = re.entry.now; im = im.old }) }
+    ensures { (record { answer = result; parts = record { re = re.new; im = im.new } }) ≡ Values.standardised_values binary64 ld n t.now (record { re = re.old; im = im.old }) }
 {
     values_read(true, n, ld, t, re, im)
 }
