@@ -1,6 +1,6 @@
 -- What the definitions of a line and of the input say, step by step. Assumes nothing.
 use mathlib.Core.Path.{◌≡◌, refl, sym, ap, ◌∙◌}
-use Prim.Native.Nat.{ℕ, zero, suc, ◌+◌, ◌-◌, ◌*◌, ◌≤◌, ◌<◌}
+use Prim.Native.Nat.{ℕ, ◌+◌, ◌-◌, ◌*◌, ◌≤◌, ◌<◌}
 use native.Mathlib.Numerals.{add-one}
 use native.Mathlib.Nat.{le_trans}
 use native.Mathlib.Omega.{arith}
@@ -14,9 +14,7 @@ use Rattle.replay_text.specs.Text.{Read, words_of}
 use Rattle.replay_text.specs.Names.{name_end, call_named}
 use Rattle.replay_text.specs.Counts.{Counts, tallied}
 use Rattle.replay_text.specs.declared.word.Found.{Found}
-use Rattle.replay_text.specs.declared.word.Found.TheVariants as Found
 use Rattle.replay_text.specs.declared.outcome.Outcome.{Outcome}
-use Rattle.replay_text.specs.declared.outcome.Outcome.TheVariants as Outcome
 use Rattle.replay_text.proofs.Found.{Fit, fit}
 use Rattle.replay_text.proofs.Names.{name_bound}
 use Rattle.replay.specs.Table.{shown}
@@ -89,7 +87,7 @@ module _ (end : ℕ) where
 pub told-inside : (line : List ℕ) (d : Desk) → (replayed line d).told ≤ length line
 unfolding replayed showing
 told-inside line d =
-    told_by (name_end line) _ (length line) _ (words_of line (name_end line) d.words).found
+    told_by (name_end line) _ (length line) (words_of line (name_end line) d.words).out (words_of line (name_end line) d.words).found
     (λ n e. omega (arith, (fit line (name_end line) d.words n e).all))
 
 pub told_within : (line : List ℕ) (len : ℕ) (d : Desk) (r : Replayed) → r ≡ replayed (take len line) d → r.told ≤ length line

@@ -4,9 +4,7 @@ use Rattle.replay_text.specs.Text.{Read, words_of}
 use Rattle.replay_text.specs.Names.{name_end, call_named, calls}
 use Rattle.replay_text.specs.Counts.{Counts, counted, tallied}
 use Rattle.replay_text.specs.declared.word.Found.{Found}
-use Rattle.replay_text.specs.declared.word.Found.TheVariants as Found
 use Rattle.replay_text.specs.declared.outcome.Outcome.{Outcome}
-use Rattle.replay_text.specs.declared.outcome.Outcome.TheVariants as Outcome
 use Rattle.replay.specs.Table.{shown}
 
 -- ---- a line

@@ -1,6 +1,8 @@
 // Tests: runs stored vectors. Each line of standard input is a call's name, an index, what the call is
 // given and what the Rust gave. It prints of each call how many lines were run and how many of
 // them came out otherwise.
+#![tactic(auto)]
+
 mod line;
 mod report;
 mod table;
