@@ -1,9 +1,12 @@
 // Program: reads a request from standard input and prints its sheet. All of the work is sheet_text's.
-ghost use Rattle.std.specs.Prelude.{◌≡◌, ◌+◌, length, replicate};
+#![tactic(auto)]
+
+ghost use Rattle.std.specs.Prelude.{◌≡◌, ◌+◌, ◌≤◌, length, replicate, IfOk};
 ghost use Rattle.model.specs.Text as Text;
 
-use libc::{STDIN_FILENO, STDOUT_FILENO};
 use sheet_text::sheet::{SHEET_ROOM, TEXT_BYTES, sheet};
+use std::io;
+use std::io::Read;
 
 // One byte more than a text may have: where it fills, the text is too long.
 const TEXT_ROOM: usize = TEXT_BYTES + 1;
@@ -20,10 +23,26 @@ fn sheet_room() -> [u8; SHEET_ROOM]
     [0; SHEET_ROOM]
 }
 
-fn main() {
+// Reads until the buffer is full or the input ends, and answers how many bytes it read.
+fn read_full(input: &mut impl Read, buf: &mut [u8]) -> io::Result<usize>
+    ensures { IfOk result (λ n. n ≤ length buf.new) }
+{
+    let mut done = 0;
+    while done < buf.len() {
+        let n = input.read(&mut buf[done..])?;
+        if n == 0 {
+            break;
+        }
+        done += n;
+    }
+    Ok(done)
+}
+
+// A read or a write that fails ends the program with its error.
+fn main(rt: HostRuntime) -> io::Result<()> {
     let mut text = text_room();
-    let n = io::read_full(STDIN_FILENO, &mut text);
+    let n = read_full(&mut rt.stdin(), &mut text)?;
     let mut out = sheet_room();
     let k = sheet(&mut out, &text[..n]);
-    io::write_all(STDOUT_FILENO, &out[..k]);
+    rt.write_all(&out[..k])
 }

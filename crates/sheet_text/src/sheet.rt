@@ -1,5 +1,5 @@
 // A sheet whole. The text is read leniently, what was read is printed as a text again, and only
-// where that is the text that came is the text laid out as document 01 asks.
+// where that is the text that came is the text laid out.
 ghost use Rattle.std.specs.Prelude.{◌≡◌, ◌≤◌, ◌<◌, ◌+◌, ◌*◌, length, replicate, false, pos};
 ghost use Rattle.model.specs.Text as Text;
 ghost use Rattle.sheet_words.specs.Put.{Put};
@@ -44,7 +44,7 @@ fn factor_place(q: usize, k: usize) -> usize
 }
 
 // What a text is taken to say: three numbers, and how many words the form and the factor have.
-#[derive(Drop)]
+#[derive(Clone, Copy)]
 struct Said {
     n: usize,
     from: usize,
