@@ -258,7 +258,7 @@ class SheetCommand(Desk):
 
     def test_program_is_missing(self):
         self.bad(
-            "run 'rt check sheet'",
+            "run 'tools/build sheet'",
             "sheet",
             self.matrix([[1]]),
             "--from",

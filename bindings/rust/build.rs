@@ -1,4 +1,4 @@
-//! Links libvolmeixi.a: VOLMEIXI_ARCHIVE, or what `rt staticlib volmeixi` left in target/.
+//! Links libvolmeixi.a: VOLMEIXI_ARCHIVE, or what `tools/build volmeixi` left in target/.
 //! It is copied to cargo's output folder, so that its file may have any name.
 
 use std::path::{Path, PathBuf};
@@ -10,7 +10,7 @@ fn main() {
     let archive = given.map_or(here.join("../../target/staticlib/libvolmeixi.a"), PathBuf::from);
     let out = env::var("OUT_DIR").unwrap();
     if let Err(e) = fs::copy(&archive, Path::new(&out).join("libvolmeixi.a")) {
-        panic!("{}: {e}; make it by `rt staticlib volmeixi` or set VOLMEIXI_ARCHIVE", archive.display());
+        panic!("{}: {e}; make it by `tools/build volmeixi` or set VOLMEIXI_ARCHIVE", archive.display());
     }
     println!("cargo:rerun-if-env-changed=VOLMEIXI_ARCHIVE");
     println!("cargo:rerun-if-changed={}", archive.display());

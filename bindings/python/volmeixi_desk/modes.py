@@ -66,7 +66,7 @@ def calls():
         import volmeixi
     except (ImportError, OSError) as error:
         raise Complaint(
-            f"the shared library cannot be loaded ({error}): run 'rt staticlib volmeixi', then bindings/python/build"
+            f"the shared library cannot be loaded ({error}): run 'tools/build volmeixi', then bindings/python/build"
         ) from None
     return volmeixi
 

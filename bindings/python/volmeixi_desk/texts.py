@@ -289,7 +289,7 @@ def run(text):
         done = subprocess.run([str(place)], input=text.encode(), stdout=subprocess.PIPE, check=False)
     except FileNotFoundError:
         raise Complaint(
-            f"{place} is not built: run 'rt check sheet' in {ROOT}, or set VOLMEIXI_SHEET"
+            f"{place} is not built: run 'tools/build sheet' in {ROOT}, or set VOLMEIXI_SHEET"
         ) from None
     except OSError as error:
         raise Complaint(f"{place} cannot be run: {error.strerror}") from None

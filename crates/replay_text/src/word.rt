@@ -3,14 +3,14 @@ ghost use Rattle.std.specs.Prelude.{◌≡◌, ◌+◌, ◌≤◌, length};
 ghost use Rattle.replay_text.specs.Text.{digit_of, digits_from, word_at, words_of};
 
 // What stands at a place: a word, or no word.
-#[derive(Drop)]
+#[derive(Clone, Copy)]
 pub enum Word {
     Is(u64),
     Malformed,
 }
 
 // What stands from a place to the line's end: that many words, or something else.
-#[derive(Drop)]
+#[derive(Clone, Copy)]
 pub enum Found {
     Words(usize),
     Malformed,

@@ -16,7 +16,7 @@ use Rattle.laws_stride.proofs.Strides.{rows-beyond, two-strides, like_base_lem}
 use Rattle.laws_shape.proofs.Steps.{steps_keep_lem}
 use Rattle.laws_shape.proofs.Meets.{all-stepwise, never_across_lem}
 use Rattle.laws_shape.proofs.Chains.{sent_back_lem, factor-sent_back, same_without_lem}
-use Rattle.schur.specs.Handed.{CallsChoose, HandedOver}
+use Rattle.schur.specs.Handed.{CallsChoose, HandedOver, SentOn}
 
 below : (n p : ℕ) → line7 n p ≡ false → p < n
 unfolding line7
@@ -47,6 +47,11 @@ handed_over =
       strides = two-strides;
       stride_is_n = stride_is_n_lem;
       like_base = like_base_lem;
+    }
+
+pub sent_on : SentOn
+sent_on =
+    record {
       sent_back = sent_back_lem;
       factor_sent_back = factor-sent_back;
       same_without = same_without_lem;

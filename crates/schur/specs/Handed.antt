@@ -38,6 +38,9 @@ pub record HandedOver : Type 1 where
   pub strides : TwoStrides
   pub stride_is_n : StrideIsN
   pub like_base : LikeBase
+
+-- and with both, that what they give back can be sent to any call again
+pub record SentOn : Type 0 where
   -- after any chain of these calls and of the move that stops, form and factor can be sent to any call again; form and answers are the same with a factor and without
   pub sent_back : SentBack
   pub factor_sent_back : FactorSentBack

@@ -44,7 +44,7 @@ fn factor_place(q: usize, k: usize) -> usize
 }
 
 // What a text is taken to say: three numbers, and how many words the form and the factor have.
-#[derive(Drop)]
+#[derive(Clone, Copy)]
 struct Said {
     n: usize,
     from: usize,

@@ -5,7 +5,7 @@ ghost use Rattle.model.specs.Text as Text;
 ghost use Rattle.sheet_words.specs.Put.{Put};
 
 // A number, and the place after its digits.
-#[derive(Drop)]
+#[derive(Clone, Copy)]
 pub struct Taken {
     pub value: usize,
     pub next: usize,

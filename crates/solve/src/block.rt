@@ -19,7 +19,7 @@ pub fn row_start(ld: usize, n: usize, i: usize, j: usize) -> usize
 }
 
 // The numbers of a 2-block that a solver reads: the lower diagonal number, b above and c below.
-#[derive(Drop)]
+#[derive(Clone, Copy)]
 pub struct Block {
     pub d: f64,
     pub b: f64,

@@ -56,7 +56,7 @@ pub fn inner_prod(
 }
 
 // The results of dot2x1.
-#[derive(Drop)]
+#[derive(Clone, Copy)]
 pub struct Two {
     pub d0: f64,
     pub d1: f64,
@@ -101,7 +101,7 @@ pub fn dot2x1(
 }
 
 // The results of dot2x2.
-#[derive(Drop)]
+#[derive(Clone, Copy)]
 pub struct Four {
     pub d00: f64,
     pub d10: f64,

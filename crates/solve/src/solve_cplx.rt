@@ -72,7 +72,7 @@ fn determinant(s: Complex, b: f64, c: f64) -> Complex
 }
 
 // Two rows.
-#[derive(Drop)]
+#[derive(Clone, Copy)]
 struct Rows {
     upper: Complex,
     lower: Complex,

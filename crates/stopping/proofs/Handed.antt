@@ -9,7 +9,7 @@ use Rattle.laws_stopping.proofs.Stops.{stops_exactly, call-stops}
 use Rattle.laws_stopping.proofs.Follows.{stopping_is_dtrexc}
 use Rattle.laws_stopping.proofs.Whole.{never_parted}
 use Rattle.laws_stopping.proofs.Standard.{exchange_is_dlanv2}
-use Rattle.stopping.specs.Handed.{HandedOver}
+use Rattle.stopping.specs.Handed.{HandedOver, SentOn}
 
 pub handed_over : HandedOver
 handed_over =
@@ -24,6 +24,11 @@ handed_over =
       lists = lists_of_moves;
       beyond = rows-beyond;
       strides = two-strides;
+    }
+
+pub sent_on : SentOn
+sent_on =
+    record {
       sent_back = sent_back_lem;
       same_without = same_without_lem;
       never_across = never_across_lem;

@@ -29,6 +29,9 @@ pub record HandedOver : Type 0 where
   -- rows from n on stay, and two strides give the same
   pub beyond : RowsBeyond
   pub strides : TwoStrides
+
+-- and with it, that what it gives back can be sent to any call again
+pub record SentOn : Type 0 where
   -- what it gives back can be sent to any call again, stopped or not, the same with a factor and without; and no exchange of it is across a 2-block
   pub sent_back : SentBack
   pub same_without : SameWithout

@@ -64,7 +64,7 @@ pub extern "C" fn vx_lasy2(
     x: &mut [f64; 4],
     scale: &mut f64,
 )
-    ensures { (record { x = x.exit.now; scale = scale.new }) ≡ solved (Lasy2.lasy2 binary64 (two_by_two tl.now) (two_by_two tr.now) (two_by_two b.now)) }
+    ensures { (record { x = x.new; scale = scale.new }) ≡ solved (Lasy2.lasy2 binary64 (two_by_two tl.now) (two_by_two tr.now) (two_by_two b.now)) }
 {
     let s = lasy2(two_by_two(tl), two_by_two(tr), two_by_two(b));
     *x = [s.x00, s.x10, s.x01, s.x11];

@@ -9,7 +9,7 @@ use linalg::jacobi::JacobiRotation;
 // c, s and r of the rotation that makes (r, 0) of (p, q).
 #[unsafe(no_mangle)]
 pub extern "C" fn vx_rotg(p: f64, q: f64, c: &mut f64, s: &mut f64, r: &mut f64)
-    ensures { (record { rot = record { c = c.exit.now; s = s.new }; r = r.new }) ≡ Jacobi.rotg binary64 p q }
+    ensures { (record { rot = record { c = c.new; s = s.new }; r = r.new }) ≡ Jacobi.rotg binary64 p q }
 {
     let g = linalg::jacobi::rotg(p, q);
     *c = g.rot.c;

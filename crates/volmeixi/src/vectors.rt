@@ -15,7 +15,7 @@ pub extern "C" fn vx_block_values(
     re: &mut [f64],
     im: &mut [f64],
 ) -> usize
-    ensures { (record { answer = result; parts = record { re = re.exit.now; im = im.new } }) ≡ Values.block_values binary64 ld n t.now (record { re = re.entry.now; im = im.old }) }
+    ensures { (record { answer = result; parts = record { re = re.new; im = im.new } }) ≡ Values.block_values binary64 ld n t.now (record { re = re.old; im = im.old }) }
 {
     values::blocks::block_values(n, ld, t, re, im)
 }
@@ -29,7 +29,7 @@ pub extern "C" fn vx_standardised_values(
     re: &mut [f64],
     im: &mut [f64],
 ) -> usize
-    ensures { (record { answer = result; parts = record { re = re.exit.now; im = im.new } }) ≡ Values.standardised_values binary64 ld n t.now (record { re = re.entry.now; im = im.old }) }
+    ensures { (record { answer = result; parts = record { re = re.new; im = im.new } }) ≡ Values.standardised_values binary64 ld n t.now (record { re = re.old; im = im.old }) }
 {
     values::blocks::standardised_values(n, ld, t, re, im)
 }
