@@ -30,7 +30,7 @@ fn word_buffer() -> [u64; 33000]
 }
 
 // Takes one byte of input: a line of `len` bytes grows, or ends and is run. A line that fills the
-// buffer is no line of a call. A line that cannot be told is counted all the same.
+// buffer is no line of a call. Where a line cannot be told, `written` has the error.
 fn take_byte(
     out: &impl Print,
     b: u8,
@@ -39,6 +39,7 @@ fn take_byte(
     words: &mut [u64],
     runs: &mut [u64; ROWS],
     differ: &mut [u64; ROWS],
+    written: &mut io::Result<()>,
 ) -> usize
     ensures { (record { line = line.new; len = result; desk = record { words = words.new; counts = record { runs = runs.new; differ = differ.new } } })
         ≡ Replayed.taken b (record { line = line.old; len = len; desk = record { words = words.old; counts = record { runs = runs.old; differ = differ.old } } }) }
@@ -46,7 +47,9 @@ fn take_byte(
     if b == b'\n' {
         if len < line.len() {
             let told = line::replay(&line[..len], words, runs, differ);
-            let _ = line::tell(out, &line[..told]);
+            if let Err(e) = line::tell(out, &line[..told]) {
+                *written = Err(e);
+            }
             return 0;
         }
         refuse(runs);
@@ -68,6 +71,7 @@ fn take_bytes(
     words: &mut [u64],
     runs: &mut [u64; ROWS],
     differ: &mut [u64; ROWS],
+    written: &mut io::Result<()>,
 ) -> usize
     ensures { (record { line = line.new; len = result; desk = record { words = words.new; counts = record { runs = runs.new; differ = differ.new } } })
         ≡ Replayed.taken_all chunk.now (record { line = line.old; len = len; desk = record { words = words.old; counts = record { runs = runs.old; differ = differ.old } } }) }
@@ -75,22 +79,16 @@ fn take_bytes(
     let mut len = len;
     let mut i = 0;
     while i < chunk.len() {
-        len = take_byte(out, chunk[i], len, line, words, runs, differ);
+        len = take_byte(out, chunk[i], len, line, words, runs, differ, written);
         i += 1;
     }
     len
 }
 
-// How the input ended: how many bytes the line has that is not ended, and whether a read failed.
-#[derive(Drop)]
-struct Ended {
-    len: usize,
-    read: io::Result<()>,
-}
-
-// Takes the input to its end, or to a read that fails. What is read cannot be promised: some input
-// leads from the state at entry to the one at exit. A proved loop has to end, and nothing says that
-// the input does: so the turns are counted down, from a number that no run uses up.
+// Takes the input to its end, and answers how many bytes the line has that is not ended. A read that
+// fails counts as the end; after a line that cannot be told no more is read. What is read cannot be
+// promised: some input leads from the state at entry to the one at exit. A proved loop has to end, and
+// nothing says that the input does: so the turns are counted down, from a number that no run uses up.
 fn take_input(
     input: &mut impl Read,
     out: &impl Print,
@@ -98,9 +96,10 @@ fn take_input(
     words: &mut [u64],
     runs: &mut [u64; ROWS],
     differ: &mut [u64; ROWS],
-) -> Ended
+    written: &mut io::Result<()>,
+) -> usize
     ensures { Replayed.Leads (record { line = line.old; len = 0; desk = record { words = words.old; counts = record { runs = runs.old; differ = differ.old } } })
-        (record { line = line.new; len = result.len; desk = record { words = words.new; counts = record { runs = runs.new; differ = differ.new } } }) }
+        (record { line = line.new; len = result; desk = record { words = words.new; counts = record { runs = runs.new; differ = differ.new } } }) }
 {
     let mut len = 0;
     let mut turns = u64::MAX;
@@ -108,15 +107,18 @@ fn take_input(
         let mut chunk = [0u8; 65536];
         let n = match input.read(&mut chunk) {
             Ok(n) => n,
-            Err(e) => return Ended { len, read: Err(e) },
+            Err(_) => return len,
         };
         if n == 0 {
-            return Ended { len, read: Ok(()) };
+            return len;
         }
-        len = take_bytes(out, &chunk[..n], len, line, words, runs, differ);
+        len = take_bytes(out, &chunk[..n], len, line, words, runs, differ, written);
+        if written.is_err() {
+            return len;
+        }
         turns -= 1;
     }
-    Ended { len, read: Ok(()) }
+    len
 }
 
 // At the input's end, a line that is not ended is no line of a call.
@@ -128,20 +130,23 @@ fn close(len: usize, runs: &mut [u64; ROWS])
     }
 }
 
+// A write that fails ends the program with its error.
 fn main(rt: HostRuntime) -> io::Result<()> {
     let mut line = line_buffer();
     let mut words = word_buffer();
     let mut runs = [0u64; ROWS];
     let mut differ = [0u64; ROWS];
-    let ended = take_input(
+    let mut written = Ok(());
+    let len = take_input(
         &mut rt.stdin(),
         &rt,
         &mut line,
         &mut words,
         &mut runs,
         &mut differ,
+        &mut written,
     );
-    close(ended.len, &mut runs);
-    report::report(&rt, &runs, &differ)?;
-    ended.read
+    written?;
+    close(len, &mut runs);
+    report::report(&rt, &runs, &differ)
 }

@@ -20,9 +20,11 @@ slice_bounds-tell-end-then-len-line g c =
     sym (length-take-le _ _
     (told_within a.line.now a.len (record { words = a.words.now; counts = record { runs = a.runs.now; differ = a.differ.now } }) _ c.replay-told.ensures))
 
-pub returns-then-len-line : goal.returns-then-len-line
-returns-then-len-line g c =
-    line-run _ _ c.if-b-eq10.true c.if-len-line.true _ c.replay-told.ensures
+pub returns-in-Err : goal.returns-in-Err
+returns-in-Err g c = line-run _ _ c.if-b-eq10.true c.if-len-line.true _ c.replay-told.ensures
+
+pub returns-in_default : goal.returns-in_default
+returns-in_default g c = line-run _ _ c.if-b-eq10.true c.if-len-line.true _ c.replay-told.ensures
 
 pub returns-then-b-eq10 : goal.returns-then-b-eq10
 unfolding refused

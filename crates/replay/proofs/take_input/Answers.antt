@@ -15,3 +15,6 @@ loop-turns-preserved g c =
 
 pub returns-then-n-eq0 : goal.returns-then-n-eq0
 returns-then-n-eq0 g c = c.loop-turns.invariant.2
+
+pub returns-then-is_err : goal.returns-then-is_err
+returns-then-is_err g c = leads_more _ c.loop-turns.invariant.2 c.take_bytes-len.ensures
