@@ -87,7 +87,7 @@ module _ (end : ℕ) where
 pub told-inside : (line : List ℕ) (d : Desk) → (replayed line d).told ≤ length line
 unfolding replayed showing
 told-inside line d =
-    told_by (name_end line) _ (length line) (words_of line (name_end line) d.words).out (words_of line (name_end line) d.words).found
+    told_by (name_end line) (call_named (take (name_end line) line)) (length line) (words_of line (name_end line) d.words).out (words_of line (name_end line) d.words).found
     (λ n e. omega (arith, (fit line (name_end line) d.words n e).all))
 
 pub told_within : (line : List ℕ) (len : ℕ) (d : Desk) (r : Replayed) → r ≡ replayed (take len line) d → r.told ≤ length line

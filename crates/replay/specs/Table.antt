@@ -1,7 +1,6 @@
 -- The calls by number: what a line of each shows. Definitions only. Assumes nothing.
 use Rattle.std.specs.Prelude.{ℕ, List, [], ◌∷◌, get_or}
 use Rattle.replay_text.specs.declared.outcome.Outcome.{Outcome}
-use Rattle.replay_text.specs.declared.outcome.Outcome.TheVariants as Outcome
 use Rattle.replay_forms.specs.Lines as Forms
 use Rattle.replay_calls.specs.Lines as Lines
 

@@ -1,14 +1,14 @@
 -- What the words of a line that fits are, and the length of the front of a room. Assumes nothing.
 use Prim.Native.Nat.{ℕ, ◌+◌, ◌*◌, ◌≤◌, ◌<◌}
 use mathlib.Core.Path.{◌≡◌, refl, sym, ◌∙◌}
-use mathlib.Core.Bool.{Bool, true, false, not, ◌&&◌, true≢false, and_false}
+use mathlib.Core.Bool.{Bool, true, false, ◌&&◌, true≢false, and-false}
 use mathlib.Core.List.{List}
 use native.Mathlib.Omega.{arith}
 use lib.Dec.{eqb, leb}
 use lib.ListN.{length, take}
 use lib.Seq.{length-take-le}
 use lib.Ieee.{Float}
-use borrow.Author.Tests.{leb-true, eqb-true, ne_eqb, not-true, not-false}
+use borrow.Author.Tests.{leb-true, eqb-true, ne_eqb}
 use Rattle.replay_forms.specs.Lines.{fits}
 
 pub record Fit (words rest once a b : ℕ) : Type 0 where
@@ -32,18 +32,18 @@ module _ (words rest once a b : ℕ) where
 
   -- what the call of `fits` answered, and the branch after it
   module _ (r : Bool) (is : r ≡ fits words rest once a b) where
-    pub no : not r ≡ true → fits words rest once a b ≡ false
-    no h = sym is ∙ not-true r h
+    pub no : r ≡ false → fits words rest once a b ≡ false
+    no h = sym is ∙ h
 
-    pub yes : not r ≡ false → fits words rest once a b ≡ true
-    yes h = sym is ∙ not-false r h
+    pub yes : r ≡ true → fits words rest once a b ≡ true
+    yes h = sym is ∙ h
 
-    pub fit : not r ≡ false → Fit words rest once a b
+    pub fit : r ≡ true → Fit words rest once a b
     fit h = told (yes h)
 
   pub short : words < rest → fits words rest once a b ≡ false
   unfolding fits
-  short h = rw (ne_eqb words (rest + once + 2 * (a + b)) (λ e. omega arith), and_false)
+  short h = rw (ne_eqb words (rest + once + 2 * (a + b)) (λ e. omega arith), and-false)
 
 pub front : (k : ℕ) (room : List Float) → 8320 ≡ length room → k ≤ 8320 → length (take k room) ≡ k
 front k room e h = length-take-le k room (omega arith)

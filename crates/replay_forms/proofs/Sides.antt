@@ -5,7 +5,6 @@ use mathlib.Core.Bool.{true, false}
 use native.Mathlib.Omega.{arith}
 use Rattle.replay_forms.specs.Lines.{fits_two}
 use Rattle.replay_forms.specs.declared.two.Call.{Call}
-use Rattle.replay_forms.specs.declared.two.Call.TheVariants as Call
 use Rattle.replay_forms.proofs.Fits.{Fit, told, short}
 
 module _ (more words a b : ℕ) where

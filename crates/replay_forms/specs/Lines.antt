@@ -11,7 +11,6 @@ use Rattle.replay_text.specs.Float.{are_words}
 use Rattle.replay_text.specs.Shown.{judged, from}
 use Rattle.replay_text.specs.declared.outcome.Outcome.{Outcome}
 use Rattle.replay_forms.specs.declared.two.Call.{Call}
-use Rattle.replay_forms.specs.declared.two.Call.TheVariants as Call
 
 -- word i is the number x
 abbrev pub is : List ℕ → ℕ → ℕ → Bool
