@@ -1,4 +1,4 @@
--- The claim of specs/ModulusNearest.antt, proved: `modulus-nearest`. Assumes nothing.
+-- The claim of specs/ModulusNearest.antt, proved: `modulus_nearest`. Assumes nothing.
 -- The digits c of half the root of n, with h zeros after them, make the pattern p = h * hid + c. Twice the middle of any two neighbouring patterns is an odd number with zeros after it, and it lies on
 -- that side of the root on which they lie of p: p is the result's, or from that of plus infinity on the result is plus infinity.
 use mathlib.Core.Path.{◌≡◌, refl, sym, ap, ◌∙◌}

@@ -1,4 +1,4 @@
--- The claim of specs/RootNearest.antt, proved: `root-nearest`. Assumes nothing.
+-- The claim of specs/RootNearest.antt, proved: `root_nearest`. Assumes nothing.
 -- With n the argument in squares of the smallest value, R the whole part of its root, and Q that part without its last h digits, one digit more than the format keeps, the result is
 -- q = (Q + 1) / 2 with h + 1 zeros after it. Twice R lies between the two sums of the result and its neighbours, and no such sum is twice the root itself.
 use mathlib.Core.Path.{◌≡◌, refl, sym, ap, ◌∙◌}

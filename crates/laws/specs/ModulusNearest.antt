@@ -1,4 +1,4 @@
--- What is claimed of the modulus, for either format: it is the value nearest to the root of the sum of two squares, said over whole numbers. `modulus-nearest` of proofs/ModulusNearest.antt proves it. Assumes nothing.
+-- What is claimed of the modulus, for either format: it is the value nearest to the root of the sum of two squares, said over whole numbers. `modulus_nearest` of proofs/ModulusNearest.antt proves it. Assumes nothing.
 use Rattle.std.specs.Prelude.{◌≡◌, ℕ, suc, ◌+◌, ◌-◌, ◌*◌, ◌%◌, ◌^◌, ◌≤◌, ◌<◌, Bool, false, not, cond, pos, T, eqb, Float}
 use Rattle.std.specs.Float.{nan, inf, fin, Format}
 use Rattle.std.specs.Float.Ieee.{low, emax, fits, to_bits}

@@ -1,4 +1,4 @@
--- The claims of reflections of longer tails: which tails are taken and which are turned away, that tails of at most 3 numbers give what they gave when no longer one was taken, which numbers of a tail are multiplied, and that the norm goes from left to right. Definitions only: `longer-reflections` of proofs/Reflections.antt proves them. Assumes nothing.
+-- The claims of reflections of longer tails: which tails are taken and which are turned away, that tails of at most 3 numbers give what they gave when no longer one was taken, which numbers of a tail are multiplied, and that the norm goes from left to right. Definitions only: `longer_reflections` of proofs/Reflections.antt proves them. Assumes nothing.
 use Rattle.std.specs.Prelude.{◌≤◌, ◌≡◌, true, false, ◌&&◌, cond, List, [], ◌∷◌, ◌++◌, map, leb, length, Float}
 use Rattle.std.specs.Float.{Format}
 use Rattle.std.specs.Float.Ieee.{mul, lt}

@@ -1,4 +1,4 @@
--- What is claimed of the square root, for either format: it is IEEE 754's, and what "nearest" means is said over whole numbers. `root-nearest` of proofs/RootNearest.antt proves it. Assumes nothing.
+-- What is claimed of the square root, for either format: it is IEEE 754's, and what "nearest" means is said over whole numbers. `root_nearest` of proofs/RootNearest.antt proves it. Assumes nothing.
 use Rattle.std.specs.Prelude.{◌≡◌, ℕ, ◌+◌, ◌-◌, ◌*◌, ◌^◌, ◌≤◌, ◌<◌, Bool, false, pos, T, Float}
 use Rattle.std.specs.Float.{nan, inf, fin, Format}
 use Rattle.std.specs.Float.Ieee.{low, lt, fits, hid, ones, of_bits, to_bits}

@@ -1,4 +1,4 @@
--- Document 01's starred worked values, as patterns: one list of tests, and the claim that each of them holds. `worked-hold` of proofs/Worked.antt proves it. Assumes nothing.
+-- Document 01's starred worked values, as patterns: one list of tests, and the claim that each of them holds. `worked_hold` of proofs/Worked.antt proves it. Assumes nothing.
 use Rattle.std.specs.Prelude.{ℕ, Bool, true, false, ◌&&◌, List, [], ◌∷◌, map, T, eqb, Float}
 use Rattle.std.specs.Float.{binary64}
 use Rattle.std.specs.Float.Ieee.{of_bits, to_bits}

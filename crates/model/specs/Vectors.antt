@@ -21,7 +21,7 @@ split_from f x y (suc zero) i even odd = add f (add f even (mul f (x i) (y i))) 
 split_from f x y (suc (suc k)) i even odd =
     split_from f x y k (i + 2) (add f even (mul f (x i) (y i))) (add f odd (mul f (x (i + 1)) (y (i + 1))))
 
--- dot2x1 gives two of these, of two rows with one; dot2x2 gives four times `innerProd`
+-- dot2x1 gives two of these, of two rows with one; dot2x2 gives four times `inner_prod`
 unfoldable pub split_prod : Format → (ℕ → Float) → (ℕ → Float) → ℕ → Float
 split_prod f x y k = split_from f x y k 0 (zero_of f) (zero_of f)
 

@@ -1,4 +1,4 @@
--- `isWord` holds exactly where x is the number of the word. Assumes nothing.
+-- `is_word` holds exactly where x is the number of the word. Assumes nothing.
 use Rattle.std.proofs.Common.{◌≡◌, ℕ, ◌^◌, ◌<◌, Bool, true, false, not, ◌&&◌, T, eqb, sym, refl, ap, ◌∙◌, true≢false, eq-eqb, eqb-true}
 use lib.Ieee.{Float, binary64, fits, is_nan, of_bits, to_bits, nan_bits}
 use lib.Ieee.Bits.{nan_bits_is, of_bits-to_bits, to_bits-of_bits}

@@ -1,4 +1,4 @@
--- What is handed over with `reorder_schur`: the rule on lists of moves, and dtrexc's choice, both about the very `moveCall` that its contract cites; and with `schur_swap` how many swaps the `exchangeCall` of its contract counts; and with both what a stride changes in them, and what it does not, and that what they give back can be sent to any call again.
+-- What is handed over with `reorder_schur`: the rule on lists of moves, and dtrexc's choice, both about the very `move_call` that its contract cites; and with `schur_swap` how many swaps the `exchange_call` of its contract counts; and with both what a stride changes in them, and what it does not, and that what they give back can be sent to any call again.
 -- They are proved in laws_moves, laws_dtrexc, laws_exchange, laws_stride and laws_shape, on which this crate rests, so that move and exchange are not built without them. Definitions only: proofs/Handed.antt has the proof. Assumes nothing.
 use Rattle.std.specs.Prelude.{ℕ, ◌≡◌, List, Float}
 use Rattle.std.specs.Float.{Format}
@@ -23,15 +23,15 @@ abbrev pub CallsChoose : Type 0
 CallsChoose = (f : Format) (ld n : ℕ) (t u : List Float) (from to : ℕ) → move_line f ld n t u from to ≡ 0 → Chosen f ld n t u from to
 
 pub record HandedOver : Type 1 where
-  -- demand 3, whose lists are lists of `moveCall`; and with the move that stops among them
+  -- demand 3, whose lists are lists of `move_call`; and with the move that stops among them
   pub lists : ListsOfOneKind
   pub lists_of_both : ListsOfMoves
-  -- dtrexc's choice, of each accepted `moveCall`
+  -- dtrexc's choice, of each accepted `move_call`
   pub choice : CallsChoose
   -- of the move that such a call is: each exchange is chosen by the zeros at that moment, and as dtrexc on any form with zeros at the same places chooses it
   pub zeros : ChoiceReadsZeros
   pub same_zeros : DtrexcSameZeros
-  -- one to four swaps, of each accepted `exchangeCall`
+  -- one to four swaps, of each accepted `exchange_call`
   pub counts : CountsOfExchange
   -- rows from n on stay; two strides give the same; with the stride n each call is what it was, and at any stride what that is on the corner copied out
   pub beyond : RowsBeyond

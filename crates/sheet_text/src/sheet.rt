@@ -1,5 +1,5 @@
 // A sheet whole. The text is read leniently, what was read is printed as a text again, and only
-// where that is the text that came is the text laid out.
+// where that is the text that came is the text laid out as document 01 asks.
 ghost use Rattle.std.specs.Prelude.{◌≡◌, ◌≤◌, ◌<◌, ◌+◌, ◌*◌, length, replicate, false, pos};
 ghost use Rattle.model.specs.Text as Text;
 ghost use Rattle.sheet_words.specs.Put.{Put};

@@ -1,4 +1,4 @@
--- What is handed over with `reorder_schur_stopping`: claims about the very `stoppingCall` that its contract cites, and about the move that it makes.
+-- What is handed over with `reorder_schur_stopping`: claims about the very `stopping_call` that its contract cites, and about the move that it makes.
 -- They are proved in laws_stopping, laws_moves, laws_stride and laws_shape, on which this crate rests, so that the call is not built without them. Definitions only: proofs/Handed.antt has the proof. Assumes nothing.
 use Rattle.laws_moves.specs.Lists.{ListsOfMoves}
 use Rattle.laws_moves.specs.Kinds.{StoppingOnTriangular}
