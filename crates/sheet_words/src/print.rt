@@ -1,5 +1,5 @@
-// Printing: each function writes at a place of `out` and answers the place after what it wrote. What
-// stands before and after it stays.
+// Printing: each function but `glyph` writes at a place of `out` and answers the place after what it
+// wrote. What stands before and after it stays.
 ghost use Rattle.std.specs.Prelude.{◌≡◌, ◌+◌, ◌*◌, ◌<◌, ◌≤◌, length};
 ghost use Rattle.model.specs.Text as Text;
 ghost use Rattle.sheet_words.specs.Put.{Put};
