@@ -1,0 +1,31 @@
+// Offered: why a call is turned away, the first line of document 01's list that applies.
+#![tactic(auto)]
+
+ghost use Rattle.refusal.specs.Line.{line};
+ghost use Rattle.std.specs.Prelude.{◌≡◌};
+
+// The lines of the list, each by what is wrong. A program's text has one that no call here has.
+#[derive(Clone, Copy, Debug, PartialEq, Eq)]
+pub enum Refusal {
+    Text = 1,
+    RowCount = 2,
+    FormLength = 3,
+    BufferLength = 4,
+    DeepEntry = 5,
+    TouchingBlocks = 6,
+    Position = 7,
+    BlockSizes = 8,
+    RowsBeyond = 9,
+    AcrossBlock = 10,
+    TailLength = 11,
+    Stride = 17,
+}
+
+// The line's number.
+impl From<Refusal> for usize {
+    ghost from_gives = { λ r n. n ≡ line r };
+
+    fn from(r: Refusal) -> usize {
+        r as usize
+    }
+}
