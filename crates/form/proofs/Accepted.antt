@@ -8,7 +8,7 @@ use mathlib.Core.List.{List}
 use lib.Dec.{eqb, ltb}
 use lib.ListN.{length}
 use lib.Ieee.{Float, binary64}
-use borrow.Author.Tests.{ltb-true, ltb-false, eqb-true, eqb-false, ne_eqb, not-false}
+use borrow.Author.Tests.{ltb-true, ltb-false, eqb-true, eqb-false, ne_eqb, eq-eqb, lt-ltb, le-ltb, not-false}
 use Rattle.model.specs.Form.{line2, line17, line3, line4, line5, line6, line7}
 use Rattle.model.specs.Exchange.{line8, line9, line10, exchange_line}
 use Rattle.model.specs.Move.{move_line}
@@ -62,6 +62,25 @@ small n h = ltb-false 64 n (neither (eqb n 0) (ltb 64 n) h).1
 pub wide : (ld n : ℕ) → line17 ld n ≡ false → (n ≤ ld) × (ld ≤ 128)
 unfolding line17
 wide ld n h = let k = neither (ltb ld n) (ltb 128 ld) h in (ltb-false ld n k.0, ltb-false 128 ld k.1)
+
+-- the tests of lines 2 and 17 as the code makes them
+pub many : {n : ℕ} → (n ≡ 0) ⊎ ((n ≡ 0 → ⊥) × (64 < n)) → line2 n ≡ true
+unfolding line2
+many (inl e) = rw (eq-eqb _ _ e)
+many (inr h) = rw (ne_eqb _ _ h.0, lt-ltb _ _ h.1)
+
+pub few : {n : ℕ} → (n ≡ 0 → ⊥) → n ≤ 64 → line2 n ≡ false
+unfolding line2
+few h k = rw (ne_eqb _ _ h, le-ltb _ _ k)
+
+pub out : {ld n : ℕ} → (ld < n) ⊎ ((n ≤ ld) × (128 < ld)) → line17 ld n ≡ true
+unfolding line17
+out (inl h) = rw (lt-ltb _ _ h)
+out (inr h) = rw (le-ltb _ _ h.0, lt-ltb _ _ h.1)
+
+pub within : {ld n : ℕ} → n ≤ ld → ld ≤ 128 → line17 ld n ≡ false
+unfolding line17
+within h k = rw (le-ltb _ _ h, le-ltb _ _ k)
 
 -- ---- sizes
 one_or_two : (k : ℕ) → (eqb k 1 || eqb k 2) ≡ true → (1 ≤ k) × (k ≤ 2)

@@ -3,3 +3,4 @@ pub mod Accepted
 pub mod Runs
 pub mod Some
 pub mod Below
+pub mod Above

@@ -2,11 +2,15 @@
 use mathlib.Core.Path.{◌≡◌, refl, sym, ap, ◌∙◌}
 use mathlib.Core.Logic.{◌⊎◌, inl, inr}
 use mathlib.Core.Bool.{Bool, true, false, ◌||◌, true≢false}
-use Prim.Native.Nat.{ℕ, zero, suc, ◌+◌, ◌<◌}
+use Prim.Native.Nat.{ℕ, zero, suc, ◌+◌, ◌-◌, ◌≤◌, ◌<◌}
 use native.Mathlib.Nat.{eq-or-lt_of_le, le_of_suc-le-suc}
 use native.Mathlib.Numerals.{add-one}
 use native.Mathlib.Omega.{arith}
-use Rattle.model.specs.Form.{some}
+use lib.ListN.{length, take, drop}
+use lib.Ieee.{Float, nan}
+use mathlib.Core.List.{List}
+use Rattle.std.proofs.lemmas.List.{get_or-take, get_or-drop, length-drop, length-take-le}
+use Rattle.model.specs.Form.{at, some}
 
 pub neither : (a b : Bool) → (a || b) ≡ false → (a ≡ false) × (b ≡ false)
 neither true b h = absurd (true≢false h)
@@ -48,3 +52,17 @@ two-more j p a b d =
 
 pub one_of_two : (n j : ℕ) (p : ℕ → Bool) → j + 1 < n → (p j || p (j + 1)) ≡ true → some n p ≡ true
 one_of_two n j p h e = settled (some n p) (λ z. true≢false (sym e ∙ rw (fails n p z j (omega arith), fails n p z (j + 1) h)))
+
+-- ---- numbers of a part of a list
+pub same_each : (n : ℕ) (p q : ℕ → Bool) → ((k : ℕ) → k < n → p k ≡ q k) → some n p ≡ some n q
+unfolding some
+same_each zero p q h = refl
+same_each (suc n) p q h = rw (same_each n p q (λ k g. h k (omega arith)), h n (omega arith))
+
+pub in_part : (t : List Float) (p k : ℕ) (f : Float → Bool) → p + k ≤ length t → some (length (take (p + k - p) (drop p t))) (λ (i : ℕ). f (at (take (p + k - p) (drop p t)) i)) ≡ some k (λ (i : ℕ). f (at t (p + i)))
+in_part t p k f h =
+    let e : p + k - p ≡ k = omega arith in
+    let l : k ≤ length t - p = omega arith in
+    rw (e, length-take-le k (drop p t) (rw (length-drop p t) l))
+    (same_each k (λ (i : ℕ). f (at (take k (drop p t)) i)) (λ (i : ℕ). f (at t (p + i)))
+    (λ i g. ap f (get_or-take k (drop p t) i nan g ∙ get_or-drop p t i nan)))

@@ -1,5 +1,0 @@
--- `form::places::put` meets its contract. Assumes nothing.
-use Rattle.form.proofs.places.put.Goals as goal
-
-pub returns : goal.returns
-returns c = rw c.place.ensures.0

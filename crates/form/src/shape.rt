@@ -1,0 +1,139 @@
+// A form's shape, the places of its numbers, and its blocks.
+ghost use Rattle.std.specs.Prelude.{◌≡◌, ◌+◌, ◌-◌, ◌*◌, ◌≤◌, ◌<◌, IfOk};
+ghost use Rattle.std.specs.Float.{binary64};
+ghost use Rattle.model.specs.Form as Form;
+ghost use Rattle.model.specs.Move as Move;
+ghost use Rattle.model.specs.Exchange as Exchange;
+ghost use Rattle.model.specs.Swaps as Swaps;
+ghost use Rattle.refusal.specs.Line.{answer};
+ghost use Rattle.form.specs.Lines.{size_line};
+
+use refusal::Refusal;
+
+// A form has n rows and columns, ld places from one column to the next.
+#[derive(Clone, Copy)]
+pub struct Shape {
+    pub n: usize,
+    pub ld: usize,
+    ghost small: { n ≤ 64 },
+    ghost fits: { n ≤ ld },
+    ghost near: { ld ≤ 128 },
+}
+
+impl Shape {
+    ghost use Rattle.form.specs.Shaped.{Holds};
+
+    // The shape of the form t, or the first of lines 2, 17 and 3 that applies.
+    pub fn new(n: usize, ld: usize, t: &[f64]) -> Result<Shape, Refusal>
+        ensures line { answer result ≡ size_line ld n t.now }
+        ensures shape { IfOk result (λ s. (s.n ≡ n) × (s.ld ≡ ld)) }
+    {
+        if n == 0 || 64 < n {
+            return Err(Refusal::RowCount);
+        }
+        if ld < n || 128 < ld {
+            return Err(Refusal::Stride);
+        }
+        if t.len() != ld * n {
+            return Err(Refusal::FormLength);
+        }
+        Ok(Shape { n, ld })
+    }
+
+    // Where row i, column j stands.
+    pub fn place(self, i: usize, j: usize) -> usize
+        requires { (i ≤ 128) × (j < self.n) }
+        ensures { (result ≡ i + self.ld * j) × (result + self.ld ≤ i + self.ld * self.n) }
+    {
+        i + self.ld * j
+    }
+
+    // Where the rest of row i starts, from column j on: nothing is left of it where j is n.
+    pub fn row_start(self, i: usize, j: usize) -> usize
+        requires { (i < self.n) × (j ≤ self.n) }
+        ensures { (result ≡ i + self.ld * j) × (result + self.ld * (self.n - j) < self.n + self.ld * self.n) }
+    {
+        i + self.ld * j
+    }
+
+    // The number in row i, column j.
+    pub fn get(self, t: &[f64], i: usize, j: usize) -> f64
+        requires { Holds self t.now × (i < self.n) × (j < self.n) }
+        ensures { result ≡ Form.entry self.ld t.now i j }
+    {
+        t[self.place(i, j)]
+    }
+
+    // v in row i, column j.
+    pub fn put(self, t: &mut [f64], i: usize, j: usize, v: f64)
+        requires { Holds self t.old × (i < self.n) × (j < self.n) }
+        ensures { t.new ≡ Swaps.put self.ld i j v t.old }
+    {
+        t[self.place(i, j)] = v;
+    }
+
+    // Whether the entry just below the diagonal in column j is zero: a NaN is not, minus zero is.
+    pub fn zero_below(self, t: &[f64], j: usize) -> bool
+        requires { Holds self t.now × (j + 1 < self.n) }
+        ensures { result ≡ Form.zero_below binary64 self.ld t.now j }
+    {
+        self.get(t, j + 1, j) == 0.0
+    }
+
+    // Whether it is not.
+    pub fn nonzero_below(self, t: &[f64], j: usize) -> bool
+        requires { Holds self t.now × (j + 1 < self.n) }
+        ensures { result ≡ Form.nonzero_below binary64 self.ld t.now j }
+    {
+        self.get(t, j + 1, j) != 0.0
+    }
+
+    // Whether a 2-block stands in rows j and j + 1.
+    pub fn two_block(self, t: &[f64], j: usize) -> bool
+        requires { Holds self t.now × (j ≤ 64) }
+        ensures { result ≡ Form.two_block binary64 self.ld self.n t.now j }
+    {
+        j + 1 < self.n && self.nonzero_below(t, j)
+    }
+
+    // Whether a 2-block lies across the edge above row e.
+    pub fn crosses(self, t: &[f64], e: usize) -> bool
+        requires { Holds self t.now × (e ≤ 64) }
+        ensures { result ≡ Exchange.crosses binary64 self.ld self.n t.now e }
+    {
+        0 < e && self.two_block(t, e - 1)
+    }
+
+    // The first row of the block that row p is in.
+    pub fn first_row(self, t: &[f64], p: usize) -> usize
+        requires { Holds self t.now × (p < self.n) }
+        ensures { (result ≡ Move.first_row binary64 self.ld t.now p) × (result ≤ p) }
+    {
+        if self.crosses(t, p) { p - 1 } else { p }
+    }
+
+    // The size of the block that begins in row p.
+    pub fn size_at(self, t: &[f64], p: usize) -> usize
+        requires { Holds self t.now × (p < self.n) }
+        ensures { (result ≡ Move.size_at binary64 self.ld self.n t.now p) × (1 ≤ result) × (result ≤ 2) × (p + result ≤ self.n) }
+    {
+        if self.two_block(t, p) { 2 } else { 1 }
+    }
+
+    // The size of the block that ends above row p.
+    pub fn size_above(self, t: &[f64], p: usize) -> usize
+        requires { Holds self t.now × (0 < p) × (p ≤ self.n) }
+        ensures { (result ≡ Move.size_above binary64 self.ld t.now p) × (1 ≤ result) × (result ≤ 2) × (result ≤ p) }
+    {
+        if self.crosses(t, p - 1) { 2 } else { 1 }
+    }
+}
+
+// Going down, the block stops with its last row where the last row of the block at `to` is: a 2-block's goal
+// is a row less against a single row, and a single row's a row more against a 2-block.
+pub fn goal_down(nbf: usize, nbl: usize, to: usize) -> usize
+    requires { (1 ≤ to) × (to ≤ 64) × (nbf ≤ 2) × (nbl ≤ 2) × (1 ≤ nbf) × (1 ≤ nbl) }
+    ensures { (result ≡ Move.goal_down nbf nbl to) × (result + nbf ≤ to + nbl) }
+{
+    to + nbl - nbf
+}
