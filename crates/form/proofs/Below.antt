@@ -8,15 +8,12 @@ use lib.Dec.{ltb}
 use lib.Ieee.{Float, binary64, ne, of_bits}
 use borrow.Author.Tests.{ltb-true, ltb-false}
 use Rattle.model.specs.Form.{at, some, deep_in, line5}
+use Rattle.form.specs.Deep.{Clean}
 use Rattle.form.proofs.Some.{neither, settled, same, all_fail, fails}
 
 module _ (ld : ℕ) (t : List Float) where
   abbrev nonzero : ℕ → Bool
   nonzero p = ne (at t p) (of_bits binary64 0)
-
-  -- the numbers more than one row below the diagonal in the rows from `top` to before `end` are zero
-  abbrev pub Clean : ℕ → ℕ → Type 0
-  Clean top end = (i j : ℕ) → top ≤ i → i < end → j + 2 ≤ i → nonzero (i + ld * j) ≡ false
 
   abbrev pub columns : ℕ → ℕ → ℕ → Bool
   columns p count rows = some count (λ (j : ℕ). some rows (λ (k : ℕ). nonzero (p + ld * j + k)))
@@ -30,14 +27,14 @@ module _ (ld : ℕ) (t : List Float) where
   moved : {p q : ℕ} → p ≡ q → nonzero q ≡ false → nonzero p ≡ false
   moved e h = rw e h
 
-  pub clean_rows : (top rows : ℕ) → deep_rows top rows ≡ false → Clean top (top + rows)
+  pub clean_rows : (top rows : ℕ) → deep_rows top rows ≡ false → Clean ld t top (top + rows)
   clean_rows top rows h i j a b d =
       moved (omega arith)
       (fails (top + (i - top) - 1) (λ (m : ℕ). nonzero (top + (i - top) + ld * m))
       (fails rows (λ (m : ℕ). some (top + m - 1) (λ (l : ℕ). nonzero (top + m + ld * l))) h (i - top) (omega arith))
       j (omega arith))
 
-  pub rows_clean : (top rows : ℕ) → Clean top (top + rows) → deep_rows top rows ≡ false
+  pub rows_clean : (top rows : ℕ) → Clean ld t top (top + rows) → deep_rows top rows ≡ false
   rows_clean top rows h =
       all_fail rows (λ (m : ℕ). some (top + m - 1) (λ (l : ℕ). nonzero (top + m + ld * l)))
       (λ m a. all_fail (top + m - 1) (λ (l : ℕ). nonzero (top + m + ld * l)) (λ l b. h (top + m) l (omega arith) (omega arith) (omega arith)))
@@ -46,7 +43,7 @@ module _ (ld : ℕ) (t : List Float) where
   abbrev parts : ℕ → ℕ → Bool
   parts top rows = columns top (top - 1) rows || corner (top + 1 + ld * (top - 1)) rows
 
-  parts_clean : (top rows : ℕ) → 1 ≤ top → parts top rows ≡ false → Clean top (top + rows)
+  parts_clean : (top rows : ℕ) → 1 ≤ top → parts top rows ≡ false → Clean ld t top (top + rows)
   parts_clean top rows one h i j a b d = pick (ltb j (top - 1)) (ltb-true j (top - 1)) (ltb-false j (top - 1))
     where
       q : (columns top (top - 1) rows ≡ false) × (corner (top + 1 + ld * (top - 1)) rows ≡ false)
@@ -73,7 +70,7 @@ module _ (ld : ℕ) (t : List Float) where
       pick true f g = in_columns (f refl)
       pick false f g = let y = g refl in in_corner (j - (top - 1)) (i - (j + 2)) (omega arith) (omega arith)
 
-  clean_parts : (top rows : ℕ) → 1 ≤ top → Clean top (top + rows) → parts top rows ≡ false
+  clean_parts : (top rows : ℕ) → 1 ≤ top → Clean ld t top (top + rows) → parts top rows ≡ false
   clean_parts top rows one h = rw (first, second)
     where
       first : columns top (top - 1) rows ≡ false
@@ -97,13 +94,13 @@ module _ (ld : ℕ) (t : List Float) where
       (λ h. rows_clean top rows (parts_clean top rows one h))
 
   -- ---- line 5
-  pub clean_line : (n : ℕ) → Clean 0 n → line5 binary64 ld n t ≡ false
+  pub clean_line : (n : ℕ) → Clean ld t 0 n → line5 binary64 ld n t ≡ false
   unfolding line5 deep_in
   clean_line n h =
       all_fail (n - 2) (deep_in binary64 ld n t)
       (λ j a. all_fail (n - (j + 2)) (λ (k : ℕ). nonzero (j + 2 + ld * j + k)) (λ k b. moved (omega arith) (h (j + 2 + k) j (omega arith) (omega arith) (omega arith))))
 
-  line_clean : (n : ℕ) → line5 binary64 ld n t ≡ false → Clean 0 n
+  line_clean : (n : ℕ) → line5 binary64 ld n t ≡ false → Clean ld t 0 n
   unfolding line5 deep_in
   line_clean n h i j a b d =
       moved (omega arith)
@@ -116,9 +113,17 @@ module _ (ld : ℕ) (t : List Float) where
       (λ z. true≢false (sym e ∙ rows_clean top rows (λ i j a b d. line_clean n z i j (omega arith) (omega arith) d)))
 
   -- clean rows above clean rows
-  pub more : (n top rows end : ℕ) → end ≤ top + rows → deep_rows top rows ≡ false → Clean end n → Clean top n
+  pub more : (n top rows end : ℕ) → end ≤ top + rows → deep_rows top rows ≡ false → Clean ld t end n → Clean ld t top n
   more n top rows end e h k i j a b d = pick (ltb i (top + rows)) (ltb-true i (top + rows)) (ltb-false i (top + rows))
     where
       pick : (x : Bool) → (x ≡ true → i < top + rows) → (x ≡ false → top + rows ≤ i) → nonzero (i + ld * j) ≡ false
       pick true f g = clean_rows top rows h i j a (f refl) d
       pick false f g = let y = g refl in k i j (omega arith) b d
+
+  -- clean rows on clean rows
+  pub above : (top mid end : ℕ) → Clean ld t top mid → Clean ld t mid end → Clean ld t top end
+  above top mid end h k i j a b d = pick (ltb i mid) (ltb-true i mid) (ltb-false i mid)
+    where
+      pick : (x : Bool) → (x ≡ true → i < mid) → (x ≡ false → mid ≤ i) → nonzero (i + ld * j) ≡ false
+      pick true f g = h i j a (f refl) d
+      pick false f g = k i j (g refl) b d

@@ -1,4 +1,3 @@
-pub mod Inside
 pub mod Accepted
 pub mod Runs
 pub mod Some

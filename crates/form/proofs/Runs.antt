@@ -8,7 +8,9 @@ use mathlib.Core.Logic.{inl, inr, ⊎_elim}
 use lib.Dec.{lit≤}
 use lib.ListN.{length}
 use lib.Ieee.{Float}
-use Rattle.form.specs.Run.{Run, Sized, Beside}
+use Rattle.form.specs.declared.shape.Shape.{Shape}
+use Rattle.form.specs.Run.{Run}
+use Rattle.form.specs.Shaped.{Holds, Beside}
 
 -- a count that is not 0 is one more than what is left
 pub one_less : {k : ℕ} → 0 < k → k ≡ suc (k - 1)
@@ -38,34 +40,31 @@ rest {step} {k} {p} {t} {s} r h e =
     let d = r.short in
     record { inside = omega arith; short = omega arith; near = r.near }
 
--- ---- runs inside a form of n rows and columns
+-- ---- runs inside a form
 
-pub resized : {ld n : ℕ} {t s : List Float} → Sized ld n t → length s ≡ length t → Sized ld n s
-resized z e = record { small = z.small; fits = z.fits; near = z.near; whole = e ∙ z.whole }
-
-square : {ld n : ℕ} {t : List Float} → Sized ld n t → length t ≤ 8192
-square {ld} {n} {t} z = let e = z.whole in omega (arith, mul-le-mul z.near z.small)
+square : (s : Shape) → s.ld * s.n ≤ 8192
+square s = mul-le-mul s.near s.small
 
 -- row x from column j on
-pub rows : {ld n x j p : ℕ} {t : List Float} → Sized ld n t → x < n → j ≤ n → p ≡ x + ld * j → Run ld (n - j) p t
-rows {ld} {n} {x} {j} {p} {t} z h k e =
-    let w = z.whole in
-    let f = z.fits in
-    let a : n - j + j ≡ n = omega arith in
-    let b : ld * (n - j + j) ≡ ld * n = ap (λ (m : ℕ). ld * m) a in
-    record { inside = omega arith; short = square z; near = z.near }
+pub rows : (s : Shape) {x j p : ℕ} {t : List Float} → Holds s t → x < s.n → j ≤ s.n → p ≡ x + s.ld * j → Run s.ld (s.n - j) p t
+rows s {x} {j} {p} {t} w h k e =
+    let f = s.fits in
+    let q = square s in
+    let a : s.n - j + j ≡ s.n = omega arith in
+    let b : s.ld * (s.n - j + j) ≡ s.ld * s.n = ap (λ (m : ℕ). s.ld * m) a in
+    record { inside = omega arith; short = omega arith; near = s.near }
 
 -- column x in the first k rows
-pub cols : {ld n x k p : ℕ} {t : List Float} → Sized ld n t → x < n → k ≤ n → p ≡ 0 + ld * x → Run 1 k p t
-cols {ld} {n} {x} {k} {p} {t} z h g e =
-    let w = z.whole in
-    let f = z.fits in
-    let m : ld * suc x ≤ ld * n = mul-le-mul_left ld h in
-    record { inside = omega arith; short = square z; near = lit≤ tt }
+pub cols : (s : Shape) {x k p : ℕ} {t : List Float} → Holds s t → x < s.n → k ≤ s.n → p ≡ 0 + s.ld * x → Run 1 k p t
+cols s {x} {k} {p} {t} w h g e =
+    let f = s.fits in
+    let q = square s in
+    let m : s.ld * suc x ≤ s.ld * s.n = mul-le-mul_left s.ld h in
+    record { inside = omega arith; short = omega arith; near = lit≤ tt }
 
 -- a factor that is there, beside a form
-pub present : {ld n : ℕ} {u : List Float} → Beside ld n u → n ≤ 64 → n ≤ ld → ld ≤ 128 → (length u ≡ 0 → ⊥) → Sized ld n u
-present b h f g k = record { small = h; fits = f; near = g; whole = ⊎_elim (λ e. absurd (k e)) (λ e. e) b.either }
+pub present : (s : Shape) {u : List Float} → Beside s u → (length u ≡ 0 → ⊥) → Holds s u
+present s b k = ⊎_elim (λ e. absurd (k e)) (λ e. e) b.either
 
-pub still : {ld n : ℕ} {u v : List Float} → Beside ld n u → length v ≡ length u → Beside ld n v
-still b e = record { either = ⊎_elim (λ h. inl (e ∙ h)) (λ h. inr (e ∙ h)) b.either }
+pub still : (s : Shape) {u v : List Float} → Beside s u → length v ≡ length u → Beside s v
+still s b e = record { either = ⊎_elim (λ h. inl (e ∙ h)) (λ h. inr (e ∙ h)) b.either }

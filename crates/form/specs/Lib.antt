@@ -1,3 +1,4 @@
 pub mod Run
 pub mod Lines
 pub mod Shaped
+pub mod Deep

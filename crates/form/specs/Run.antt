@@ -7,13 +7,6 @@ pub record Run (step k p : ℕ) (t : List Float) : Type 0 where
   pub short : length t ≤ 8192
   pub near : step ≤ 128
 
--- a form of n rows and columns, ld places from one column to the next
-pub record Sized (ld n : ℕ) (t : List Float) : Type 0 where
-  pub small : n ≤ 64
-  pub fits : n ≤ ld
-  pub near : ld ≤ 128
-  pub whole : length t ≡ ld * n
-
 -- a factor beside it, or none
 pub record Beside (ld n : ℕ) (u : List Float) : Type 0 where
   pub either : (length u ≡ 0) ⊎ (length u ≡ ld * n)

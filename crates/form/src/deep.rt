@@ -1,10 +1,12 @@
 // Lines 5 and 6 of document 01's list: what a form meets by itself.
-ghost use Rattle.std.specs.Prelude.{◌≡◌, ℕ, ◌+◌, ◌-◌, ◌*◌, ◌<◌, ◌≤◌, length};
+ghost use Rattle.std.specs.Prelude.{◌≡◌, ℕ, ◌+◌, ◌-◌, ◌*◌, ◌≤◌, true, false, length, MatchResult};
 ghost use Rattle.std.specs.Float.{binary64};
 ghost use Rattle.std.specs.Float.Ieee.{ne, of_bits};
 ghost use Rattle.model.specs.Form as Form;
 ghost use Rattle.model.specs.Form.{at, some};
 ghost use Rattle.refusal.specs.Line.{answer};
+ghost use Rattle.refusal.specs.declared.Refusal.TheVariants.{DeepEntry, TouchingBlocks};
+ghost use Rattle.form.specs.Deep.{Clean};
 ghost use Rattle.form.specs.Lines.{shape_line};
 ghost use Rattle.form.specs.Shaped.{Holds};
 
@@ -60,4 +62,63 @@ fn deep_rows<const ROWS: usize>(ld: usize, t: &[f64], top: usize) -> bool
 {
     let whole = top - 1;
     any_in_columns::<ROWS>(ld, t, top, whole) || any_in_corner(ld, t, top + 1 + ld * whole, ROWS)
+}
+
+// Looks for such a number from the last of the first `rows` rows up, ROWS rows at a time, while more than ROWS
+// are left, and gives the rows that are left.
+fn none_deep<const ROWS: usize>(s: Shape, t: &[f64], rows: usize) -> Result<usize, Refusal>
+    requires { Holds s t.now × (1 ≤ ROWS) × (rows ≤ s.n) }
+    ensures { MatchResult result
+        (λ (left : ℕ). (left ≤ rows) × (left ≤ ROWS) × Clean s.ld t.now left rows)
+        (λ e. (e ≡ DeepEntry) × (Form.line5 binary64 s.ld s.n t.now ≡ true)) }
+{
+    let mut left = rows;
+    while ROWS < left {
+        left -= ROWS;
+        if deep_rows::<ROWS>(s.ld, t, left) {
+            return Err(Refusal::DeepEntry);
+        }
+    }
+    Ok(left)
+}
+
+// Line 5, from the last rows up: eight rows at a time, then four, then one. The first row has no such
+// number.
+fn all_none_deep(s: Shape, t: &[f64]) -> Result<(), Refusal>
+    requires { Holds s t.now }
+    ensures { MatchResult result
+        (λ _. Form.line5 binary64 s.ld s.n t.now ≡ false)
+        (λ e. (e ≡ DeepEntry) × (Form.line5 binary64 s.ld s.n t.now ≡ true)) }
+{
+    let rows = none_deep::<8>(s, t, s.n)?;
+    let rows = none_deep::<4>(s, t, rows)?;
+    none_deep::<1>(s, t, rows)?;
+    Ok(())
+}
+
+// Line 6: each column's number below the diagonal beside that of the column before.
+fn touching(s: Shape, t: &[f64]) -> bool
+    requires { Holds s t.now }
+    ensures { result ≡ Form.line6 binary64 s.ld s.n t.now }
+{
+    let mut seen = false;
+    let mut before = false;
+    for j in 1..s.n {
+        let here = s.nonzero_below(t, j - 1);
+        seen |= before & here;
+        before = here;
+    }
+    seen
+}
+
+// Whether t is quasi-triangular: line 5 or 6, the first that applies.
+pub fn quasi_triangular(s: Shape, t: &[f64]) -> Result<(), Refusal>
+    requires { Holds s t.now }
+    ensures { answer result ≡ shape_line s.ld s.n t.now }
+{
+    all_none_deep(s, t)?;
+    if touching(s, t) {
+        return Err(Refusal::TouchingBlocks);
+    }
+    Ok(())
 }

@@ -2,5 +2,6 @@
 // meets by itself, the places of its numbers, its blocks, and the lines of a move and an exchange.
 #![tactic(auto)]
 
-mod deep;
+pub mod deep;
+pub mod lines;
 pub mod shape;

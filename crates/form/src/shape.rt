@@ -21,12 +21,12 @@ pub struct Shape {
 }
 
 impl Shape {
-    ghost use Rattle.form.specs.Shaped.{Holds};
+    ghost use Rattle.form.specs.Shaped.{Holds, IsOf};
 
     // The shape of the form t, or the first of lines 2, 17 and 3 that applies.
     pub fn new(n: usize, ld: usize, t: &[f64]) -> Result<Shape, Refusal>
         ensures line { answer result ≡ size_line ld n t.now }
-        ensures shape { IfOk result (λ s. (s.n ≡ n) × (s.ld ≡ ld)) }
+        ensures shape { IfOk result (λ s. IsOf s n ld t.now) }
     {
         if n == 0 || 64 < n {
             return Err(Refusal::RowCount);
