@@ -1,14 +1,19 @@
 -- Laws of `some`: it is false exactly where each number fails. Assumes nothing.
 use mathlib.Core.Path.{◌≡◌, refl, sym, ap, ◌∙◌}
 use mathlib.Core.Logic.{◌⊎◌, inl, inr}
-use mathlib.Core.Bool.{Bool, true, false, ◌||◌, true≢false}
+use mathlib.Core.Bool.{Bool, true, false, not, ◌||◌, true≢false}
 use Prim.Native.Nat.{ℕ, zero, suc, ◌+◌, ◌-◌, ◌≤◌, ◌<◌}
 use native.Mathlib.Nat.{eq-or-lt_of_le, le_of_suc-le-suc}
 use native.Mathlib.Numerals.{add-one}
 use native.Mathlib.Omega.{arith}
 use lib.ListN.{length, take, drop}
 use lib.Ieee.{Float, nan}
-use mathlib.Core.List.{List}
+use mathlib.Core.List.{List, [], ◌∷◌}
+use Rattle.std.proofs.lemmas.Simd.{none_from_empty_mask, get_or-chunk, length-chunk}
+use Rattle.std.proofs.Common.{map, zero-add}
+use lib.Lanes.{mask_l, chunk}
+use lib.Dec.{eqb}
+use borrow.Author.Tests.{eqb-true, not-false}
 use Rattle.std.proofs.lemmas.List.{get_or-take, get_or-drop, length-drop, length-take-le}
 use Rattle.model.specs.Form.{at, some}
 
@@ -66,3 +71,25 @@ in_part t p k f h =
     rw (e, length-take-le k (drop p t) (rw (length-drop p t) l))
     (same_each k (λ (i : ℕ). f (at (take k (drop p t)) i)) (λ (i : ℕ). f (at t (p + i)))
     (λ i g. ap f (get_or-take k (drop p t) i nan g ∙ get_or-drop p t i nan)))
+
+-- ---- numbers compared at once: the mask of the lanes that pass
+empty_mask : (p : Float → Bool) (xs : List Float) → ((k : ℕ) → k < length xs → p (at xs k) ≡ false) → mask_l (map p xs) ≡ 0
+empty_mask p [] h = refl
+empty_mask p (x ∷ xs) h = rw (h 0 (omega arith), empty_mask p xs (λ k g. h (suc k) (omega arith))) refl
+
+pub seen_at_once : (p : Float → Bool) (xs : List Float) (n : ℕ) → n ≤ length xs → not (eqb (mask_l (map p (chunk 0 n xs))) 0) ≡ some n (λ (k : ℕ). p (at xs k))
+seen_at_once p xs n h =
+    same (not (eqb (mask_l (map p (chunk 0 n xs))) 0)) (some n (λ (k : ℕ). p (at xs k)))
+    (λ e. all_fail n (λ (k : ℕ). p (at xs k)) (λ k g. none_from_empty_mask p xs 0 n nan (omega arith) (none_set (mask_l (map p (chunk 0 n xs))) e) k (omega arith) (omega arith)))
+    (λ e. rw (empty_mask p (chunk 0 n xs) (λ k g. ap p (get_or-chunk 0 n xs k nan (below k g)) ∙ ap (λ (i : ℕ). p (at xs i)) (zero-add k) ∙ fails n (λ (i : ℕ). p (at xs i)) e k (below k g))) refl)
+  where
+    none_set : (m : ℕ) → not (eqb m 0) ≡ false → m ≡ 0
+    none_set m e = eqb-true m 0 (not-false (eqb m 0) e)
+
+    below : (k : ℕ) → k < length (chunk 0 n xs) → k < n
+    below k g = rw (length-chunk 0 n xs (omega arith)) at g
+
+pub from_place : (t : List Float) (p n : ℕ) (f : Float → Bool) → p + n ≤ length t → some n (λ (k : ℕ). f (at (take (length t - p) (drop p t)) k)) ≡ some n (λ (k : ℕ). f (at t (p + k)))
+from_place t p n f h =
+    same_each n (λ (k : ℕ). f (at (take (length t - p) (drop p t)) k)) (λ (k : ℕ). f (at t (p + k)))
+    (λ k g. ap f (get_or-take (length t - p) (drop p t) k nan (omega arith) ∙ get_or-drop p t k nan))

@@ -12,6 +12,7 @@ ghost use Rattle.form.specs.Shaped.{Holds};
 
 use crate::shape::Shape;
 use refusal::Refusal;
+use std::simd::Simd;
 
 // Whether some of the numbers is not zero. There is no early exit, so that the compiler may test several
 // at a time.
@@ -25,15 +26,23 @@ fn any_nonzero(xs: &[f64]) -> bool
     seen
 }
 
+// The same of the first N numbers, all compared at once.
+fn any_of_first<const N: usize>(xs: &[f64]) -> bool
+    requires { (N ≤ length xs.now) × (N ≤ 64) }
+    ensures { result ≡ some N (λ (k : ℕ). ne (at xs.now k) (of_bits binary64 0)) }
+{
+    let x: Simd<f64, N> = Simd::from_slice(xs);
+    x.simd_ne(Simd::splat(0.0)).any()
+}
+
 // Whether one of `count` columns, ld places apart, has a number that is not zero in the ROWS rows from
-// place p on. The early exit keeps the compiler from gathering numbers of several columns, which is slower.
+// place p on.
 fn any_in_columns<const ROWS: usize>(ld: usize, t: &[f64], p: usize, count: usize) -> bool
-    requires { (p + ROWS ≤ ld) × (ld * count ≤ length t.now) }
+    requires { (p + ROWS ≤ ld) × (ROWS ≤ 64) × (ld * count ≤ length t.now) }
     ensures { result ≡ some count (λ (j : ℕ). some ROWS (λ (k : ℕ). ne (at t.now (p + ld * j + k)) (of_bits binary64 0))) }
 {
     for j in 0..count {
-        let top = p + ld * j;
-        if any_nonzero(&t[top..top + ROWS]) {
+        if any_of_first::<ROWS>(&t[p + ld * j..]) {
             return true;
         }
     }
@@ -57,7 +66,7 @@ fn any_in_corner(ld: usize, t: &[f64], p: usize, rows: usize) -> bool
 // Whether one of the ROWS rows from row `top` on has a number that is not zero more than one row below the
 // diagonal: whole columns, then the corner at the diagonal.
 fn deep_rows<const ROWS: usize>(ld: usize, t: &[f64], top: usize) -> bool
-    requires { (1 ≤ top) × (1 ≤ ROWS) × (top + ROWS ≤ ld) × (ld * (top + ROWS) ≤ length t.now) }
+    requires { (1 ≤ top) × (1 ≤ ROWS) × (ROWS ≤ 64) × (top + ROWS ≤ ld) × (ld * (top + ROWS) ≤ length t.now) }
     ensures { result ≡ some ROWS (λ (i : ℕ). some (top + i - 1) (λ (j : ℕ). ne (at t.now (top + i + ld * j)) (of_bits binary64 0))) }
 {
     let whole = top - 1;
@@ -67,7 +76,7 @@ fn deep_rows<const ROWS: usize>(ld: usize, t: &[f64], top: usize) -> bool
 // Looks for such a number from the last of the first `rows` rows up, ROWS rows at a time, while more than ROWS
 // are left, and gives the rows that are left.
 fn none_deep<const ROWS: usize>(s: Shape, t: &[f64], rows: usize) -> Result<usize, Refusal>
-    requires { Holds s t.now × (1 ≤ ROWS) × (rows ≤ s.n) }
+    requires { Holds s t.now × (1 ≤ ROWS) × (ROWS ≤ 64) × (rows ≤ s.n) }
     ensures { MatchResult result
         (λ (left : ℕ). (left ≤ rows) × (left ≤ ROWS) × Clean s.ld t.now left rows)
         (λ e. (e ≡ DeepEntry) × (Form.line5 binary64 s.ld s.n t.now ≡ true)) }
