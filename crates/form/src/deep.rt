@@ -1,5 +1,5 @@
 // Lines 5 and 6 of document 01's list: what a form meets by itself.
-ghost use Rattle.std.specs.Prelude.{◌≡◌, ℕ, ◌+◌, ◌-◌, ◌*◌, ◌≤◌, true, false, length, MatchResult};
+ghost use Rattle.std.specs.Prelude.{◌≡◌, ℕ, ◌+◌, ◌-◌, ◌*◌, ◌≤◌, true, false, length, max, MatchResult};
 ghost use Rattle.std.specs.Float.{binary64};
 ghost use Rattle.std.specs.Float.Ieee.{ne, of_bits};
 ghost use Rattle.model.specs.Form as Form;
@@ -74,15 +74,15 @@ fn deep_rows<const ROWS: usize>(ld: usize, t: &[f64], top: usize) -> bool
 }
 
 // Looks for such a number from the last of the first `rows` rows up, ROWS rows at a time, while more than ROWS
-// are left, and gives the rows that are left.
+// are left, and gives the rows that are left. The first two rows have none.
 fn none_deep<const ROWS: usize>(s: Shape, t: &[f64], rows: usize) -> Result<usize, Refusal>
     requires { Holds s t.now × (1 ≤ ROWS) × (ROWS ≤ 64) × (rows ≤ s.n) }
     ensures { MatchResult result
-        (λ (left : ℕ). (left ≤ rows) × (left ≤ ROWS) × Clean s.ld t.now left rows)
+        (λ (left : ℕ). (left ≤ rows) × (left ≤ max ROWS 2) × Clean s.ld t.now left rows)
         (λ e. (e ≡ DeepEntry) × (Form.line5 binary64 s.ld s.n t.now ≡ true)) }
 {
     let mut left = rows;
-    while ROWS < left {
+    while ROWS.max(2) < left {
         left -= ROWS;
         if deep_rows::<ROWS>(s.ld, t, left) {
             return Err(Refusal::DeepEntry);
@@ -91,8 +91,7 @@ fn none_deep<const ROWS: usize>(s: Shape, t: &[f64], rows: usize) -> Result<usiz
     Ok(left)
 }
 
-// Line 5, from the last rows up: eight rows at a time, then four, then one. The first row has no such
-// number.
+// Line 5, from the last rows up: eight rows at a time, then four, then one.
 fn all_none_deep(s: Shape, t: &[f64]) -> Result<(), Refusal>
     requires { Holds s t.now }
     ensures { MatchResult result
@@ -105,19 +104,17 @@ fn all_none_deep(s: Shape, t: &[f64]) -> Result<(), Refusal>
     Ok(())
 }
 
-// Line 6: each column's number below the diagonal beside that of the column before.
+// Line 6: two neighbouring numbers just below the diagonal.
 fn touching(s: Shape, t: &[f64]) -> bool
     requires { Holds s t.now }
     ensures { result ≡ Form.line6 binary64 s.ld s.n t.now }
 {
-    let mut seen = false;
-    let mut before = false;
-    for j in 1..s.n {
-        let here = s.nonzero_below(t, j - 1);
-        seen |= before & here;
-        before = here;
+    for j in 0..s.n.saturating_sub(2) {
+        if s.nonzero_below(t, j) & s.nonzero_below(t, j + 1) {
+            return true;
+        }
     }
-    seen
+    false
 }
 
 // Whether t is quasi-triangular: line 5 or 6, the first that applies.

@@ -1,8 +1,6 @@
 -- `form::lines::accepted` meets its contract. Assumes nothing.
-use mathlib.Core.Path.{◌≡◌, ◌∙◌}
-use Prim.Native.Nat.{◌*◌}
+use mathlib.Core.Path.{◌≡◌}
 use borrow.Author.Tests.{ne_eqb}
-use lib.ListN.{length}
 use Rattle.std.proofs.Common.{rules, Err}
 use Rattle.model.specs.Form.{line4}
 use Rattle.refusal.proofs.Told.{told}
