@@ -1,1 +1,3 @@
+pub mod Lines
 pub mod Part
+pub mod Places

@@ -2,6 +2,10 @@
 #![tactic(auto)]
 
 pub mod block;
+mod complex;
 mod dots;
+mod leading;
 pub mod solve_cplx;
 pub mod solve_real;
+mod strided;
+pub mod walk;

@@ -1,26 +1,42 @@
 -- One step of going through the blocks from the first, as the code takes it, by any reading. Assumes nothing.
-use mathlib.Core.Path.{◌≡◌}
-use mathlib.Core.Bool.{true, false}
+use mathlib.Core.Path.{◌≡◌, sym}
+use mathlib.Core.Bool.{Bool, true, false, ◌&&◌, true≢false}
 use mathlib.Core.List.{List}
 use Prim.Native.Nat.{ℕ, suc, ◌+◌, ◌-◌, ◌<◌}
+use native.Mathlib.Decide.{ℕ_discrete}
 use native.Mathlib.Omega.{arith}
-use lib.Ieee.{Float, Format}
-use Rattle.model.specs.Form.{nonzero_below}
+use lib.Dec.{ltb}
+use borrow.Author.Tests.{lt-ltb}
+use lib.Ieee.{Float, binary64}
+use Rattle.model.specs.Form.{two_block, nonzero_below}
 use Rattle.model.specs.Values.{Reading, Parts, one_value, two_values, values_from}
+use Rattle.form.proofs.Above.{inside_block}
 use Rattle.solve.proofs.Left.{left-two, left_one, left-none}
 
-module _ (f : Format) (rd : Reading) (ld : ℕ) (t : List Float) (n j : ℕ) (s : Parts) where
+second : (a b : Bool) → (a && b) ≡ true → b ≡ true
+second true b h = h
+second false b h = absurd (true≢false (sym h))
+
+module _ (rd : Reading) (ld : ℕ) (t : List Float) (n j : ℕ) (s : Parts) where
   abbrev from : ℕ → Parts → Parts
-  from i = values_from f rd ld t (n - i) i
+  from i = values_from binary64 rd ld t (n - i) i
 
-  pub next_last : j + 1 ≡ n → from (j + 1) (one_value f ld t j s) ≡ from j s
+  last_one : j + 1 ≡ n → from (j + 1) (one_value binary64 ld t j s) ≡ from j s
   unfolding values_from
-  next_last h = rw (left_one j n h, left-none (j + 1) n (omega arith))
+  last_one h = rw (left_one j n h, left-none (j + 1) n (omega arith))
 
-  pub next-two : j + 1 < n → nonzero_below f ld t j ≡ true → from (j + 2) (two_values f rd ld t j s) ≡ from j s
+  more : j + 1 < n → nonzero_below binary64 ld t j ≡ false → from (j + 1) (one_value binary64 ld t j s) ≡ from j s
   unfolding values_from
-  next-two h z = rw (left-two j n h, z)
+  more h z = let e : n - (j + 1) ≡ suc (n - (j + 2)) = omega arith in rw (left-two j n h, z, e)
 
-  pub next_one : j + 1 < n → nonzero_below f ld t j ≡ false → from (j + 1) (one_value f ld t j s) ≡ from j s
-  unfolding values_from
-  next_one h z = let e : n - (j + 1) ≡ suc (n - (j + 2)) = omega arith in rw (left-two j n h, z, e)
+  pub next_one : j < n → two_block binary64 ld n t j ≡ false → from (j + 1) (one_value binary64 ld t j s) ≡ from j s
+  unfolding two_block
+  next_one h z =
+      elim (ℕ_discrete (j + 1) n) [
+        | yes p ↦ last_one p
+        | no p ↦ let l : j + 1 < n = omega arith in more l (rw (lt-ltb _ _ l) at z)
+      ]
+
+  pub next-two : two_block binary64 ld n t j ≡ true → from (j + 2) (two_values binary64 rd ld t j s) ≡ from j s
+  unfolding values_from two_block
+  next-two z = rw (left-two j n (inside_block ld n t j z), second (ltb (j + 1) n) (nonzero_below binary64 ld t j) z)

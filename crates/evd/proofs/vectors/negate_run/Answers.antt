@@ -1,23 +1,16 @@
--- `evd::vectors::negate_run` meets its contract. The invariant: the rest of the work, done to what there is now, gives the whole. Assumes nothing.
-use mathlib.Core.Path.{refl}
+-- `evd::vectors::negate_run` meets its contract. Assumes nothing.
 use native.Mathlib.Nat.{sub-zero}
-use lib.ListN.{length-set}
 use Rattle.model.specs.Vectors.{negated_run}
 use Rattle.solve.proofs.Left.{left-suc, left-none}
-use borrow.Author.Rules.{rules}
 use Rattle.evd.proofs.vectors.negate_run.Goals as goal
 
 pub loop-i-init : goal.loop-i-init
-loop-i-init c = (search rules, refl, rw sub-zero)
+loop-i-init c = rw sub-zero
 
 pub loop-i-preserved : goal.loop-i-preserved
 unfolding negated_run
-loop-i-preserved c =
-    (search rules, simp length-set c.loop-i.invariant.1, rw (left-suc _ _ c.loop-i-test.true) at c.loop-i.invariant.2)
-
-pub shape_of-v : goal.shape_of-v
-shape_of-v c = c.loop-i.invariant.1
+loop-i-preserved c = rw (left-suc _ _ c.loop-i-test.true) at c.loop-i.invariant
 
 pub returns : goal.returns
 unfolding negated_run
-returns c = rw (left-none _ _ c.loop-i-test.false) at c.loop-i.invariant.2
+returns c = rw (left-none _ _ c.loop-i-test.false) at c.loop-i.invariant

@@ -4,11 +4,14 @@ use Prim.Native.Nat.{◌-◌, ◌≤◌}
 use lib.ListN.{length}
 use lib.Ieee.{binary64}
 use Rattle.model.specs.Values.{values_from}
-use Rattle.values.specs.Reading.{reading}
 use Rattle.values.proofs.blocks.all_values.Given as goal
 
 abbrev pub invariant-loop-j : goal.invariant-loop-j
-invariant-loop-j l = (l.j ≤ l.n) × (length l.re ≡ length l.initial.re) × (length l.im ≡ length l.initial.im) × (values_from binary64 (reading l.standardise) l.ld l.t (l.n - l.j) l.j (record { re = l.re; im = l.im }) ≡ values_from binary64 (reading l.standardise) l.ld l.t l.n 0 (record { re = l.initial.re; im = l.initial.im }))
+invariant-loop-j g l =
+    (l.j ≤ l.s.n)
+    × (length l.re ≡ length l.initial.re)
+    × (length l.im ≡ length l.initial.im)
+    × (values_from binary64 g.R.Reading.read l.s.ld l.t (l.s.n - l.j) l.j (record { re = l.re; im = l.im }) ≡ values_from binary64 g.R.Reading.read l.s.ld l.t l.s.n 0 (record { re = l.initial.re; im = l.initial.im }))
 
 abbrev pub decreases-loop-j : goal.decreases-loop-j
-decreases-loop-j l = l.n - l.j
+decreases-loop-j g l = l.s.n - l.j

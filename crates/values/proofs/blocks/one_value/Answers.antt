@@ -4,4 +4,4 @@ use Rattle.values.proofs.blocks.one_value.Goals as goal
 
 pub returns : goal.returns
 unfolding one_value
-returns c = rw c.place.ensures.0
+returns c = rw c.get.ensures

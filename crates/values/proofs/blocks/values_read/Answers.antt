@@ -1,31 +1,36 @@
 -- `values::blocks::values_read` meets its contract. Assumes nothing.
-use mathlib.Core.Path.{sym, ◌∙◌}
-use mathlib.Core.Bool.{not}
-use borrow.Author.Tests.{eq-eqb, ne_eqb, eqb-true, not-false}
-use lib.Dec.{eqb}
-use lib.ListN.{length}
+use mathlib.Core.Path.{◌≡◌}
+use Rattle.std.proofs.Common.{rules, Err}
 use Rattle.model.specs.Values.{values_read}
-use Rattle.form.proofs.Accepted.{further_accepted}
-use Rattle.solve.proofs.Sizes.{whole}
-use Rattle.values.proofs.Lines.{first, second, two_buffers}
+use Rattle.refusal.proofs.Told.{told}
+use Rattle.values.proofs.Lines.{values_first, misfit, fit}
 use Rattle.values.proofs.blocks.values_read.Goals as goal
 
-pub returns-then-line-ne0 : goal.returns-then-line-ne0
+pub returns-in_err-s : goal.returns-in_err-s
 unfolding values_read
-returns-then-line-ne0 c = rw (← two_buffers, ← c.values_line-line.ensures, ne_eqb _ _ c.if-line-ne0.true)
+returns-in_err-s g c =
+    let e = c.in_err-s.field-0.0 in
+    let x : c.from_residual.result ≡ Err e = search rules in
+    rw (x, values_first, ← c.in_err-s.ensures.line, told e, told e)
 
-pub all_values-requires : goal.all_values-requires
-all_values-requires c =
-    let s = c.args in
-    let r = eqb (length s.re.now) s.n in
-    let m = eqb (length s.im.now) s.n in
-    let a = further_accepted _ _ _ _ (sym c.values_line-line.ensures ∙ c.if-line-ne0.false) in (
-      whole a.0,
-      eqb-true _ _ (not-false r (first (not r) (not m) a.1)),
-      eqb-true _ _ (not-false m (second (not r) (not m) a.1)),
-    )
+pub returns-then-re-s : goal.returns-then-re-s
+unfolding values_read
+returns-then-re-s g c =
+    let k = c.in_ok-s.ensures.shape in
+    rw (values_first, ← c.in_ok-s.ensures.line, misfit (rw k.rows at c.then-re-s.either))
+
+pub returns-in_err-quasi_triangular : goal.returns-in_err-quasi_triangular
+unfolding values_read
+returns-in_err-quasi_triangular g c =
+    let k = c.in_ok-s.ensures.shape in
+    let e = c.in_err-quasi_triangular.field-0.0 in
+    let x : c.from_residual-in_err-quasi_triangular.result ≡ Err e = search rules in
+    let h = fit (rw k.rows at c.if-re-s.false) (rw k.rows at c.if-im-s.false) in
+    rw (x, values_first, ← c.in_ok-s.ensures.line, h, ← (rw (k.stride, k.rows) at c.in_err-quasi_triangular.ensures), told e)
 
 pub returns : goal.returns
 unfolding values_read
-returns c =
-    rw (← two_buffers, ← c.values_line-line.ensures, eq-eqb _ _ c.if-line-ne0.false, c.all_values.ensures)
+returns g c =
+    let k = c.in_ok-s.ensures.shape in
+    let h = fit (rw k.rows at c.if-re-s.false) (rw k.rows at c.if-im-s.false) in
+    rw (values_first, ← c.in_ok-s.ensures.line, h, ← (rw (k.stride, k.rows) at c.in_ok-quasi_triangular.ensures), c.all_values.ensures, k.stride, k.rows)

@@ -1,0 +1,44 @@
+// Through the blocks of a form's first rows, from the last block up.
+ghost use Rattle.std.specs.Prelude.{◌≡◌, ℕ, ◌+◌, ◌<◌, ◌≤◌, List, length, Float};
+ghost use Rattle.std.specs.Float.{binary64};
+ghost use Rattle.model.specs.Vectors as Vectors;
+ghost use Rattle.form.specs.Shaped.{Holds};
+
+use form::shape::Shape;
+
+// What is done to a list at each block: at a 1-block's row, and at a 2-block's first row.
+pub trait EachBlock {
+    // how many rows there are, and what the list's length meets
+    ghost rows: { Self → ℕ };
+
+    ghost fits: { Self → ℕ → Type 0 };
+
+    ghost one: { Self → ℕ → List Float → List Float };
+
+    ghost two: { Self → ℕ → List Float → List Float };
+
+    fn one(&self, i: usize, x: &mut [f64])
+        requires { (i < rows self.now) × fits self.now (length x.old) }
+        ensures { x.new ≡ one self.now i x.old };
+
+    fn two(&self, i: usize, x: &mut [f64])
+        requires { (i + 1 < rows self.now) × fits self.now (length x.old) }
+        ensures { x.new ≡ two self.now i x.old };
+}
+
+// The blocks of the first `rows` rows of the form a.
+pub fn blocks_down<B: EachBlock>(s: Shape, a: &[f64], each: &B, rows: usize, x: &mut [f64])
+    requires { Holds s a.now × (rows ≤ s.n) × (rows ≤ B.rows each.now) × B.fits each.now (length x.old) }
+    ensures { x.new ≡ Vectors.blocks_down binary64 s.ld a.now (B.one each.now) (B.two each.now) rows x.old }
+{
+    let mut left = rows;
+    while 0 < left {
+        let size = s.size_above(a, left);
+        left -= size;
+        if size == 1 {
+            each.one(left, &mut *x);
+        } else {
+            each.two(left, &mut *x);
+        }
+    }
+}
