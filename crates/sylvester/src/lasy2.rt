@@ -23,7 +23,8 @@ struct Pivot {
     col: usize,
 }
 
-// The system t * x = b of four rows, and its least pivot.
+// The system t * x = b of four rows, and its least pivot. A step or a place is a bare number below
+// 4, as the loops below count it: as a struct it would be made anew at each turn of each loop.
 #[derive(Clone, Copy)]
 struct System {
     t: [[f64; 4]; 4],
@@ -67,12 +68,11 @@ fn exceeds(t: f64, b: f64) -> bool
 
 // Row r with the multiple of row p taken off that clears place i, where the multiplier then stands.
 #[tactic(auto, using(crate::proofs::Left::left_suc), unfolding(model::specs::Lasy2::reduced_row, model::specs::Lasy2::less_from))]
-fn reduced_row(p: [f64; 4], i: usize, r: [f64; 4]) -> [f64; 4]
+fn reduced_row(p: [f64; 4], i: usize, mut r: [f64; 4]) -> [f64; 4]
     requires { i < 4 }
     ensures { result ≡ Lasy2.reduced_row binary64 p i r }
 {
     let m = r[i] / p[i];
-    let mut r = r;
     r[i] = m;
     for k in i + 1..4 {
         r[k] -= m * p[k];
@@ -188,7 +188,7 @@ impl System {
         }
     }
 
-    // The same of the right-hand side, by the multipliers that stand in column i.
+    // The same of the right-hand side, by the multipliers that then stand in column i.
     #[tactic(auto, using(crate::proofs::Left::left_suc), unfolding(model::specs::Lasy2::rhs_from))]
     fn eliminate_rhs(&mut self, i: usize)
         requires { i < 4 }
@@ -217,7 +217,7 @@ impl System {
         p.col
     }
 
-    // Whether a number of b is so large in any row.
+    // Whether a number of b is so large in any row: by `any` over the rows the proof does not close.
     #[tactic(auto, unfolding(model::specs::Lasy2::too_large))]
     fn too_large(&self) -> bool
         ensures { result ≡ Lasy2.too_large binary64 self.now.t self.now.b }
@@ -270,7 +270,7 @@ impl System {
     }
 
     // x and its scale, with the order of the columns undone.
-    #[tactic(auto, unfolding(model::specs::Lasy2::solved, model::specs::Lasy2::triangular))]
+    #[tactic(auto, using(crate::proofs::Left::left_suc), unfolding(crate::proofs::Steps::steps, crate::proofs::Steps::step))]
     fn solve(mut self) -> Solution
         ensures { solution result ≡ Lasy2.solved binary64 self.smin self.t self.b }
     {
