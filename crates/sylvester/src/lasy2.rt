@@ -229,7 +229,7 @@ impl System {
     }
 
     // b scaled down where that has to be, and its scale.
-    #[tactic(auto, unfolding(model::specs::Lasy2::scaled_rhs, model::specs::Lasy2::scaled_by))]
+    #[tactic(auto, using(crate::proofs::Order::four_is), unfolding(model::specs::Lasy2::scaled_rhs, model::specs::Lasy2::scaled_by))]
     fn scale_rhs(&mut self) -> f64
         ensures b { (record { x = self.new.b; scale = result }) ≡ Lasy2.scaled_rhs binary64 self.old.t self.old.b }
         ensures t { self.new.t ≡ self.old.t }
