@@ -8,31 +8,22 @@ use native.Mathlib.Omega.{arith}
 use lib.Dec.{eqb, ltb, leb}
 use lib.ListN.{length, get_or, take, drop, replicate, length-append, length-replicate}
 use lib.Seq.{take_at}
-use borrow.Author.Tests.{ltb-false, le-ltb, lt-ltb, leb-true, le-leb, lt-leb, eq-eqb, eqb-true}
-use Rattle.model.specs.Text.{text_bytes, word_room, sheet_room, Request, text_of, InBounds, number_at, digit_of, digits_from, more_at, words_at, factor_place, request_of, same, laid_out, printed, answer_line, sheet_of, Sheet, sheet_call}
+use borrow.Author.Tests.{ltb-false, le-ltb, lt-ltb, leb-true, le-leb, lt-leb, eq-eqb, ne_eqb}
+use borrow.Author.Rules.{rules}
+use Rattle.std.specs.Bool.{Decides}
+use Rattle.std.specs.Cmp.Lexicographic.{pointwise}
+use Rattle.std.proofs.lemmas.Slice.Eq.{compares_Decides}
+use Rattle.model.specs.Text.{text_bytes, word_room, sheet_room, Request, text_of, InBounds, number_at, digit_of, digits_from, more_at, words_at, factor_place, request_of, same, laid_out, numbers, printed_move, printed, answer_line, sheet_of, Sheet, sheet_call}
+use Rattle.model.specs.Move.{move_call}
+use lib.Ieee.{binary64}
+use mathlib.Core.Logic.{◌⊎◌, inl, inr}
 use Rattle.sheet_words.specs.Put.{Put}
 
 -- ---- a word of 16 digits has 64 bits
 
 digit_small : (b : ℕ) → digit_of b ≤ 15
 unfolding digit_of
-digit_small b = first (ltb b 48) refl
-  where
-    fourth : (t : Bool) → leb b 102 ≡ t → cond t (b - 87) 0 ≤ 15
-    fourth true e = let l = leb-true b 102 e in omega arith
-    fourth false e = omega arith
-
-    third : (t : Bool) → ltb b 97 ≡ t → cond t 0 (cond (leb b 102) (b - 87) 0) ≤ 15
-    third true e = omega arith
-    third false e = fourth (leb b 102) refl
-
-    second : (t : Bool) → leb b 57 ≡ t → cond t (b - 48) (cond (ltb b 97) 0 (cond (leb b 102) (b - 87) 0)) ≤ 15
-    second true e = let l = leb-true b 57 e in omega arith
-    second false e = third (ltb b 97) refl
-
-    first : (t : Bool) → ltb b 48 ≡ t → cond t 0 (cond (leb b 57) (b - 48) (cond (ltb b 97) 0 (cond (leb b 102) (b - 87) 0))) ≤ 15
-    first true e = omega arith
-    first false e = second (leb b 57) refl
+digit_small b = grind (arith)
 
 digits_small : (s : List ℕ) (k i w j : ℕ) → w < 16 ^ j → digits_from s k i w < 16 ^ (j + k)
 unfolding digits_from
@@ -81,30 +72,21 @@ number_small s (suc k) v p j h =
 
 -- ---- the same bytes
 
-pub same_itself : (a : List ℕ) → same a a ≡ true
+-- what the comparison of two slices gives
+pub same_is : (a b : List ℕ) → pointwise eqb a b ≡ same a b
 unfolding same
-same_itself [] = refl
-same_itself (x ∷ a) = rw (eq-eqb x x refl, same_itself a)
+same_is [] [] = refl
+same_is [] (y ∷ b) = refl
+same_is (x ∷ a) [] = refl
+same_is (x ∷ a) (y ∷ b) = rw (same_is a b)
+
+same_decides : (a b : List ℕ) → Decides (same a b) (a ≡ b)
+unfolding same
+same_decides = compares_Decides same (search rules)
 
 both : (a b : Bool) → (a && b) ≡ true → (a ≡ true) × (b ≡ true)
 both true b h = (refl, h)
 both false b h = absurd (true≢false (sym h))
-
-pub same_only : (a b : List ℕ) → same a b ≡ true → a ≡ b
-unfolding same
-same_only [] [] h = refl
-same_only [] (y ∷ b) h = absurd (true≢false (sym h))
-same_only (x ∷ a) [] h = absurd (true≢false (sym h))
-same_only (x ∷ a) (y ∷ b) h =
-    let t = both (eqb x y) (same a b) h in
-    rw (eqb-true x y t.0, same_only a b t.1)
-
-pub not_same : (a b : List ℕ) → (a ≡ b → ⊥) → false ≡ same a b
-not_same a b h = by (same a b) refl
-  where
-    by : (t : Bool) → same a b ≡ t → false ≡ same a b
-    by true e = absurd (h (same_only a b e))
-    by false e = sym e
 
 -- ---- what is laid out
 
@@ -123,12 +105,12 @@ pub laid_out_only : (s : List ℕ) → laid_out s ≡ true → InBounds (request
 unfolding laid_out
 laid_out_only s h =
     let t = both (leb (length s) text_bytes) (same s (text_of (request_of s))) h in
-    let e : s ≡ text_of (request_of s) = same_only s (text_of (request_of s)) t.1 in
+    let e : s ≡ text_of (request_of s) = (same_decides s (text_of (request_of s))).0 t.1 in
     (in_bounds s (leb-true (length s) text_bytes t.0) e, e)
 
 pub laid_out_if : (s : List ℕ) → length s ≤ text_bytes → s ≡ text_of (request_of s) → laid_out s ≡ true
 unfolding laid_out
-laid_out_if s l e = rw (le-leb (length s) text_bytes l, ← e) (same_itself s)
+laid_out_if s l e = rw (le-leb (length s) text_bytes l, ← e) ((same_decides s s).1 refl)
 
 -- ---- a list put at the start of a buffer
 
@@ -146,26 +128,18 @@ drop-zeros zero m = rw (sub-zero m)
 drop-zeros (suc n) zero = rw (zero-sub (suc n))
 drop-zeros (suc n) (suc m) = rw (suc-sub-suc m n) (drop-zeros n m)
 
--- ---- what was read, from its parts
+-- ---- what was read, from its parts: the words are the first ones of two buffers
 
-pub parts : (s : List ℕ) (a a' b b' c c' k p : ℕ)
+pub said : (s t t' u u' : List ℕ) (a a' b b' c c' k l p : ℕ)
     → record { value = a; next = a' } ≡ number_at s 4 0 2
     → record { value = b; next = b' } ≡ number_at s 4 0 (a' + 6)
     → record { value = c; next = c' } ≡ number_at s 4 0 (b' + 4)
-    → k ≡ 0 + length (words_at s word_room (c' + 2)) → p ≡ factor_place (c' + 2) k
-    → (a ≡ (request_of s).n) × (b ≡ (request_of s).from) × (c ≡ (request_of s).to)
-    × (words_at s word_room (c' + 2) ≡ (request_of s).form) × (words_at s word_room p ≡ (request_of s).factor)
+    → Put t 0 (words_at s word_room (c' + 2)) t' k → p ≡ factor_place (c' + 2) k → Put u 0 (words_at s word_room p) u' l
+    → record { n = a; from = b; to = c; form = take k t'; factor = take l u' } ≡ request_of s
 unfolding request_of
-parts s a a' b b' c c' k p ea eb ec ek ep =
-    rw (← ea, ← eb, ← ec) (refl, refl, refl, refl, rw (ep, ek, zero-add))
-
--- the request that two buffers hold, of which the first words are its
-pub said : (s t t' u u' : List ℕ) (n from to k l : ℕ)
-    → n ≡ (request_of s).n → from ≡ (request_of s).from → to ≡ (request_of s).to → Put t 0 (request_of s).form t' k → Put u 0 (request_of s).factor u' l
-    → record { n = n; from = from; to = to; form = take k t'; factor = take l u' } ≡ request_of s
-unfolding request_of
-said s t t' u u' n from to k l en ef et pt pu =
-    rw (en, ef, et, put_front t t' (request_of s).form k pt, put_front u u' (request_of s).factor l pu)
+said s t t' u u' a a' b b' c c' k l p ea eb ec pt ep pu =
+    let q : p ≡ factor_place (c' + 2) (length (words_at s word_room (c' + 2))) = ep ∙ rw (pt.0, zero-add (length (words_at s word_room (c' + 2)))) in
+    rw (← ea, ← eb, ← ec, put_front t t' (words_at s word_room (c' + 2)) k pt, put_front u u' (words_at s word_room p) l pu, q)
 
 -- ---- the sheet by cases
 
@@ -173,14 +147,37 @@ pub too_long_lem : (s : List ℕ) → text_bytes < length s → answer_line 1 �
 unfolding sheet_of laid_out
 too_long_lem s h = rw (lt-leb (length s) text_bytes h)
 
-module _ (s : List ℕ) (q : Request) (l : length s ≤ text_bytes) (is : q ≡ request_of s) where
-  pub other_text : same s (text_of q) ≡ false → answer_line 1 ≡ sheet_of s
-  unfolding sheet_of laid_out
-  other_text e = rw (le-leb (length s) text_bytes l, ← is, e)
+-- at most so many words are read
+words_few : (s : List ℕ) (k p : ℕ) → length (words_at s k p) ≤ k
+unfolding words_at
+words_few s zero p = omega arith
+words_few s (suc k) p = by (words_few s k (p + 17)) (more_at s p)
+  where
+    by : length (words_at s k (p + 17)) ≤ k → (t : Bool) → length (cond t (digits_from s 16 (p + 1) 0 ∷ words_at s k (p + 17)) []) ≤ suc k
+    by h true = omega arith
+    by h false = omega arith
 
-  pub its_text : same s (text_of q) ≡ true → printed q ≡ sheet_of s
+module _ (s : List ℕ) (q : Request) (is : q ≡ request_of s) where
+  pub few : (length q.form ≤ word_room) × (length q.factor ≤ word_room)
+  unfolding request_of
+  few = rw is (words_few s word_room _, words_few s word_room _)
+
+  pub other_text : length s ≤ text_bytes → same s (text_of q) ≡ false → answer_line 1 ≡ sheet_of s
   unfolding sheet_of laid_out
-  its_text e = rw (le-leb (length s) text_bytes l, ← is, e)
+  other_text l e = rw (le-leb (length s) text_bytes l, ← is, e)
+
+  pub its_text : length s ≤ text_bytes → same s (text_of q) ≡ true → laid_out s ≡ true
+  unfolding laid_out
+  its_text l e = rw (le-leb (length s) text_bytes l, ← is, e)
+
+  pub other_rows : laid_out s ≡ true → (q.n ≡ 0) ⊎ (q.n ≡ 0 → ⊥) × (32 < q.n) → answer_line 2 ≡ sheet_of s
+  unfolding sheet_of printed
+  other_rows e (inl h) = rw (e, ← is, eq-eqb q.n 0 h)
+  other_rows e (inr (z, h)) = rw (e, ← is, ne_eqb q.n 0 z, lt-ltb 32 q.n h)
+
+  pub its_move : laid_out s ≡ true → 0 < q.n → q.n ≤ 32 → printed_move (move_call binary64 q.n q.n (numbers q.form) (numbers q.factor) q.from q.to) ≡ sheet_of s
+  unfolding sheet_of printed
+  its_move e l h = rw (e, ← is, ne_eqb q.n 0 (λ z. omega arith), le-ltb 32 q.n h)
 
 -- ---- what the call does
 

@@ -1,15 +1,19 @@
 // A sheet whole. The text is read leniently, what was read is printed as a text again, and only
 // where that is the text that came is the text laid out as document 01 asks.
-ghost use Rattle.std.specs.Prelude.{◌≡◌, ◌≤◌, ◌<◌, ◌+◌, ◌*◌, length, replicate, false, pos};
+ghost use Rattle.std.specs.Prelude.{◌≡◌, ◌≤◌, ◌<◌, ◌+◌, ◌*◌, true, length, replicate, OnOk, IfOk, IfErr};
 ghost use Rattle.model.specs.Text as Text;
+ghost use Rattle.refusal.specs.Line.{line};
 ghost use Rattle.sheet_words.specs.Put.{Put};
-ghost use Rattle.std.specs.Float.{binary64, fin};
-ghost use Rattle.model.specs.Move.{move_call};
+ghost use Rattle.sheet_words.specs.View.{request};
+ghost use Rattle.schur.specs.View.{moved};
+ghost use Rattle.sheet_text.specs.Asked.{asked};
 
-use schur::reorder::reorder_schur;
+use refusal::Refusal;
+use schur::reorder::{Moved, reorder_schur};
 use sheet_words::float::{numbers_of, words_of};
 use sheet_words::print::{put_accepted, put_answer, put_request};
 use sheet_words::read::{number, words};
+use sheet_words::request::Request;
 
 // The bytes that a text has at most.
 pub const TEXT_BYTES: usize = 40000;
@@ -20,199 +24,124 @@ const WORD_ROOM: usize = 2353;
 // Bytes that any sheet fits: 140 and 17 for each of 2 × 2353 words.
 pub const SHEET_ROOM: usize = 81000;
 
-fn word_room() -> [u64; WORD_ROOM]
-    ensures { (Text.word_room ≡ length result) × (result ≡ replicate Text.word_room 0) }
-{
-    [0; WORD_ROOM]
-}
-
-fn number_room() -> [f64; WORD_ROOM]
-    ensures { (Text.word_room ≡ length result) × (result ≡ replicate Text.word_room (fin false 0 (pos 0))) }
-{
-    [0.0; WORD_ROOM]
-}
-
 // Where the `=` before the factor's words stands, k words after the one at place q.
+#[tactic(auto, unfolding(model::specs::Text::factor_place))]
 fn factor_place(q: usize, k: usize) -> usize
     requires { (q ≤ 1000) × (k ≤ 10000) }
     ensures { (result ≡ Text.factor_place q k) × (result ≤ 200000) }
 {
-    if k == 0 {
-        return q + 17 * k + 3;
-    }
-    q + 17 * k + 2
+    let after = if k == 0 { 3 } else { 2 };
+    q + 17 * k + after
 }
 
-// What a text is taken to say: three numbers, and how many words the form and the factor have.
-#[derive(Clone, Copy)]
-struct Said {
-    n: usize,
-    from: usize,
-    to: usize,
-    form: usize,
-    factor: usize,
-}
-
-fn read_request(t: &mut [u64], u: &mut [u64], s: &[u8]) -> Said
+// What a text is taken to say. Its words are in `t` and `u`.
+fn read_request<'a>(t: &'a mut [u64], u: &'a mut [u64], s: &[u8]) -> Request<'a>
     requires { (length t.old ≡ Text.word_room) × (length u.old ≡ Text.word_room) }
-    ensures { (result.form ≤ length t.new) × (result.factor ≤ length u.new)
-        × (result.n ≡ (Text.request_of s.now).n) × (result.from ≡ (Text.request_of s.now).from) × (result.to ≡ (Text.request_of s.now).to)
-        × Put t.old 0 (Text.request_of s.now).form t.new result.form
-        × Put u.old 0 (Text.request_of s.now).factor u.new result.factor }
+    ensures { request result ≡ Text.request_of s.now }
 {
-    let n = number(s, 2);
-    let from = number(s, n.next + 6);
-    let to = number(s, from.next + 4);
-    let q = to.next + 2;
-    let form = words(t, s, q);
-    let factor = words(u, s, factor_place(q, form));
-    Said {
-        n: n.value,
-        from: from.value,
-        to: to.value,
-        form: form,
-        factor: factor,
+    let (n, at) = number(s, 2);
+    let (from, at) = number(s, at + 6);
+    let (to, at) = number(s, at + 4);
+    let form = words(t, s, at + 2);
+    let factor = words(u, s, factor_place(at + 2, form));
+    Request {
+        n,
+        from,
+        to,
+        form: &t[..form],
+        factor: &u[..factor],
     }
 }
 
-// Whether two texts are the same bytes.
-fn same(a: &[u8], b: &[u8]) -> bool
-    ensures { result ≡ Text.same a.now b.now }
+// Whether the text is that of the request, which is printed in `out` to compare.
+fn is_text_of(out: &mut [u8], s: &[u8], r: &Request) -> bool
+    requires { 110 + 17 * length r.now.form.now + 17 * length r.now.factor.now ≤ length out.old }
+    ensures { result ≡ Text.same s.now (Text.text_of (request r.now)) }
 {
-    if a.len() != b.len() {
-        return false;
-    }
-    let mut i = 0;
-    while i < a.len() {
-        if a[i] != b[i] {
-            return false;
-        }
-        i += 1;
-    }
-    true
+    let k = put_request(out, r);
+    s == &out[..k]
 }
 
-// Every byte zero.
-fn clear(out: &mut [u8])
-    ensures { out.new ≡ replicate (length out.old) 0 }
-{
-    let mut i = 0;
-    while i < out.len() {
-        out[i] = 0;
-        i += 1;
-    }
-}
-
-// Whether the text is that of the request, which is printed in `out` to compare; every byte of it is
-// zero then.
-fn is_text_of(
+// The request whose text this is, or why there is none of at most 32 rows. `out` holds anything then.
+fn request_in<'a>(
     out: &mut [u8],
+    t: &'a mut [u64],
+    u: &'a mut [u64],
     s: &[u8],
-    n: usize,
-    from: usize,
-    to: usize,
-    t: &[u64],
-    u: &[u64],
-) -> bool
-    requires { 110 + 17 * length t.now + 17 * length u.now ≤ length out.old }
-    ensures { (result ≡ Text.same s.now (Text.text_of (record { n = n; from = from; to = to; form = t.now; factor = u.now })))
-        × (out.new ≡ replicate (length out.old) 0) }
+) -> Result<Request<'a>, Refusal>
+    requires { (Text.sheet_room ≤ length out.old) × (length t.old ≡ Text.word_room) × (length u.old ≡ Text.word_room) }
+    ensures ok { IfOk result (λ r. (request r ≡ Text.request_of s.now) × (Text.laid_out s.now ≡ true) × (0 < r.n) × (r.n ≤ 32)) }
+    ensures err { IfErr result (λ e. Text.answer_line (line e) ≡ Text.sheet_of s.now) }
 {
-    let k = put_request(out, n, from, to, t, u);
-    let r = same(s, &out[..k]);
-    clear(out);
-    r
+    if s.len() > TEXT_BYTES {
+        return Err(Refusal::Text);
+    }
+    let r = read_request(t, u, s);
+    if !is_text_of(out, s, &r) {
+        return Err(Refusal::Text);
+    }
+    if r.n == 0 || r.n > 32 {
+        return Err(Refusal::RowCount);
+    }
+    Ok(r)
 }
 
 // Prints what the move gave.
-fn print_moved(
-    out: &mut [u8],
-    answer: usize,
-    landed: usize,
-    swaps: usize,
-    declined: usize,
-    x: &[f64],
-    y: &[f64],
-) -> usize
+fn print_moved(out: &mut [u8], m: Moved, x: &[f64], y: &[f64]) -> usize
     requires { (Text.sheet_room ≤ length out.old) × (length x.now ≤ Text.word_room) × (length y.now ≤ Text.word_room) }
-    ensures { (result ≤ length out.new) × Put out.old 0 (Text.printed_move (record { answer = answer; landed = landed; swaps = swaps; declined = declined; form = x.now; factor = y.now })) out.new result }
+    ensures { (result ≤ length out.new) × Put out.old 0 (Text.printed_move (moved m x.now y.now)) out.new result }
 {
-    if answer != 0 {
-        return put_answer(out, answer);
+    if m.answer != 0 {
+        return put_answer(out, m.answer);
     }
-    let mut t = word_room();
-    let mut u = word_room();
+    let mut t = [0; WORD_ROOM];
+    let mut u = [0; WORD_ROOM];
     words_of(&mut t, x);
     words_of(&mut u, y);
-    let k = x.len();
-    let l = y.len();
-    put_accepted(out, landed, swaps, declined, &t[..k], &u[..l])
+    let t = &t[..x.len()];
+    let u = &u[..y.len()];
+    put_accepted(out, m.landed, m.swaps, m.declined, t, u)
 }
 
-// Makes the move and prints what it gave.
-fn move_and_print(
-    out: &mut [u8],
-    x: &mut [f64],
-    y: &mut [f64],
-    n: usize,
-    from: usize,
-    to: usize,
-) -> usize
-    requires { (Text.sheet_room ≤ length out.old) × (length x.old ≤ Text.word_room) × (length y.old ≤ Text.word_room) }
-    ensures { (result ≤ length out.new) × Put out.old 0 (Text.printed_move (move_call binary64 n n x.old y.old from to)) out.new result
-        × (x.new ≡ (move_call binary64 n n x.old y.old from to).form)
-        × (y.new ≡ (move_call binary64 n n x.old y.old from to).factor) }
+// Makes the move that a request asks for, and prints what it gave.
+fn run(out: &mut [u8], r: &Request) -> usize
+    requires { (Text.sheet_room ≤ length out.old) × (length r.now.form.now ≤ Text.word_room) × (length r.now.factor.now ≤ Text.word_room) }
+    ensures { (result ≤ length out.new) × Put out.old 0 (Text.printed_move (asked (request r.now))) out.new result }
 {
-    let m = reorder_schur(n, n, x, y, from, to);
-    print_moved(out, m.answer, m.landed, m.swaps, m.declined, x, y)
+    let mut x = [0.0; WORD_ROOM];
+    let mut y = [0.0; WORD_ROOM];
+    numbers_of(&mut x, r.form);
+    numbers_of(&mut y, r.factor);
+    let x = &mut x[..r.form.len()];
+    let y = &mut y[..r.factor.len()];
+    let m = reorder_schur(r.n, r.n, x, y, r.from, r.to);
+    print_moved(out, m, x, y)
 }
 
-// The sheet of a request.
-fn run(out: &mut [u8], n: usize, from: usize, to: usize, t: &[u64], u: &[u64]) -> usize
-    requires { (Text.sheet_room ≤ length out.old) × (length t.now ≤ Text.word_room) × (length u.now ≤ Text.word_room) }
-    ensures { (result ≤ length out.new) × Put out.old 0 (Text.printed (record { n = n; from = from; to = to; form = t.now; factor = u.now })) out.new result }
-{
-    if n == 0 {
-        return put_answer(out, 2);
-    }
-    if n > 32 {
-        return put_answer(out, 2);
-    }
-    let mut x = number_room();
-    let mut y = number_room();
-    numbers_of(&mut x, t);
-    numbers_of(&mut y, u);
-    let k = t.len();
-    let l = u.len();
-    move_and_print(out, &mut x[..k], &mut y[..l], n, from, to)
-}
-
-// The sheet of a text at the start of `out`, and zeros after it: answers how many bytes it has.
-fn sheet_of(out: &mut [u8], input: &[u8]) -> usize
+// The sheet of a text that is a request's, at the start of `out`, and zeros after it: answers how many
+// bytes it has. Where there is no such request, every byte of `out` is zero.
+fn sheet_of(out: &mut [u8], input: &[u8]) -> Result<usize, Refusal>
     requires { Text.sheet_room ≤ length out.old }
-    ensures { Put (replicate (length out.old) 0) 0 (Text.sheet_of input.now) out.new result }
+    ensures ok { IfOk result (λ n. Put (replicate (length out.old) 0) 0 (Text.sheet_of input.now) out.new n) }
+    ensures err { IfErr result (λ e. (out.new ≡ replicate (length out.old) 0) × (Text.answer_line (line e) ≡ Text.sheet_of input.now)) }
 {
-    if input.len() > TEXT_BYTES {
-        clear(out);
-        return put_answer(out, 1);
-    }
-    let mut t = word_room();
-    let mut u = word_room();
-    let said = read_request(&mut t, &mut u, input);
-    let k = said.form;
-    let l = said.factor;
-    if !is_text_of(out, input, said.n, said.from, said.to, &t[..k], &u[..l]) {
-        return put_answer(out, 1);
-    }
-    run(out, said.n, said.from, said.to, &t[..k], &u[..l])
+    let mut t = [0; WORD_ROOM];
+    let mut u = [0; WORD_ROOM];
+    let found = request_in(out, &mut t, &mut u, input);
+    out.fill(0);
+    Ok(run(out, &found?))
 }
 
-// The same, and 0 and nothing written where `out` has less room than any sheet fits.
+// The sheet of a text at the start of `out`, and zeros after it: answers how many bytes it has. Where
+// `out` has less room than any sheet fits, 0, and it stays.
 pub fn sheet(out: &mut [u8], input: &[u8]) -> usize
     ensures { (record { count = result; buffer = out.new }) ≡ Text.sheet_call out.old input.now }
 {
     if out.len() < SHEET_ROOM {
         return 0;
     }
-    sheet_of(out, input)
+    match sheet_of(out, input) {
+        Ok(count) => count,
+        Err(refusal) => put_answer(out, usize::from(refusal)),
+    }
 }

@@ -2,3 +2,4 @@ pub mod Numerals
 pub mod Reading
 pub mod Back
 pub mod Put
+pub mod Page

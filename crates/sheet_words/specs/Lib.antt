@@ -1,1 +1,3 @@
 pub mod Put
+pub mod Page
+pub mod View

@@ -5,13 +5,14 @@ ghost use Rattle.model.specs.Text as Text;
 use bits::float::floats_of;
 
 // The bits of a number, and of a NaN always the same.
+#[tactic(auto, unfolding(model::specs::Text::word_of))]
 fn word_of(x: f64) -> u64
     ensures { result ≡ Text.word_of x }
 {
-    if x != x {
+    if x.is_nan() {
         return 0x7ff8_0000_0000_0000;
     }
-    f64::to_bits(x)
+    x.to_bits()
 }
 
 // The numbers of all words, at the start of `out`. The rest of it stays.
@@ -19,8 +20,7 @@ pub fn numbers_of(out: &mut [f64], w: &[u64])
     requires { length w.now ≤ length out.old }
     ensures { out.new ≡ Text.numbers w.now ++ drop (length w.now) out.old }
 {
-    let k = w.len();
-    floats_of(w, &mut out[..k]);
+    floats_of(w, &mut out[..w.len()]);
 }
 
 // The words of all numbers, at the start of `out`. The rest of it stays.
@@ -28,9 +28,7 @@ pub fn words_of(out: &mut [u64], x: &[f64])
     requires { length x.now ≤ length out.old }
     ensures { out.new ≡ Text.words_of x.now ++ drop (length x.now) out.old }
 {
-    let mut i = 0;
-    while i < x.len() {
-        out[i] = word_of(x[i]);
-        i += 1;
+    for (i, &number) in x.iter().enumerate() {
+        out[i] = word_of(number);
     }
 }

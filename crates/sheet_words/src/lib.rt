@@ -4,3 +4,4 @@
 pub mod float;
 pub mod print;
 pub mod read;
+pub mod request;

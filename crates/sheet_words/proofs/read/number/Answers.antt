@@ -1,14 +1,11 @@
--- `sheet_words::read::number` meets its contract. The invariant: the digits that are left, after the number so far, give the whole number. Assumes nothing.
-use mathlib.Core.Path.{◌≡◌, sym, ◌∙◌}
-use mathlib.Core.List.{List}
-use Prim.Native.Nat.{ℕ, suc, ◌+◌, ◌-◌, ◌*◌, ◌^◌, ◌≤◌, ◌<◌}
-use native.Mathlib.Nat.{add-zero, add_assoc, lt_of_lt_of_le, pow-le-pow_right}
-use native.Mathlib.Numerals.{add-one}
-use native.Mathlib.Omega.{arith}
-use lib.ListN.{length, get_or, get_or-eq_default}
-use borrow.Author.Tests.{lt-ltb, le-ltb}
+-- `sheet_words::read::number` meets its contract. Assumes nothing.
+use Rattle.std.proofs.Common.{rules, ◌≡◌, ℕ, List, get_or, zero, suc, Bool, true, false, ltb, refl, ltb-false, lt-ltb, ◌+◌, ◌-◌, ◌*◌, ◌^◌, ◌≤◌, ◌<◌, ◌∙◌, arith, add-one, lt_of_lt_of_le}
+use Rattle.std.proofs.lemmas.Bool.{le-ltb}
+use native.Mathlib.Nat.{pow-le-pow_right}
+use lib.ListN.{get_or-eq_default}
 use Rattle.model.specs.Text.{number_at}
 use Rattle.sheet_words.proofs.read.number.Goals as goal
+use Rattle.sheet_words.proofs.read.number.Goals.{then-next-s-via-then-next-s, then-next-s-via-else-next-s+then-not-is_ascii_digit}
 
 -- one digit more is ten times more
 grow : (i v d : ℕ) → v < 10 ^ i → d ≤ 9 → v * 10 + d < 10 ^ (i + 1)
@@ -17,57 +14,41 @@ grow i v d h g = rw (add-one i) (omega arith)
 small : (i v : ℕ) → i ≤ 4 → v < 10 ^ i → v < 10000
 small i v h g = lt_of_lt_of_le g (pow-le-pow_right {n = 10} (omega arith) {i = i} {j = 4} h)
 
-module _ (s : List ℕ) (m i at v : ℕ) (inside : i < m) where
-  left : m - i ≡ suc (m - (i + 1))
-  left = omega arith
-
-  low : get_or s (at + i) 0 < 48 → number_at s (m - i) v (at + i) ≡ record { value = v; next = at + i }
-  unfolding number_at
-  low h = rw (left, lt-ltb (get_or s (at + i) 0) 48 h)
-
-  high : 48 ≤ get_or s (at + i) 0 → 57 < get_or s (at + i) 0 → number_at s (m - i) v (at + i) ≡ record { value = v; next = at + i }
-  unfolding number_at
-  high h g = rw (left, le-ltb (get_or s (at + i) 0) 48 h, lt-ltb 57 (get_or s (at + i) 0) g)
-
-  past : length s ≤ at + i → number_at s (m - i) v (at + i) ≡ record { value = v; next = at + i }
-  past h = let e : get_or s (at + i) 0 ≡ 0 = get_or-eq_default s 0 h in low (omega arith)
-
-  more : 48 ≤ get_or s (at + i) 0 → get_or s (at + i) 0 ≤ 57
-      → number_at s (m - (i + 1)) (v * 10 + (get_or s (at + i) 0 - 48)) (at + (i + 1)) ≡ number_at s (m - i) v (at + i)
-  unfolding number_at
-  more h g = rw (left, le-ltb (get_or s (at + i) 0) 48 h, le-ltb 57 (get_or s (at + i) 0) g, add_assoc at i 1)
-
-none : (s : List ℕ) (m i p v : ℕ) → m ≤ i → number_at s (m - i) v p ≡ record { value = v; next = p }
+-- where no digit stands, or none may follow, the number ends
+stop : (s : List ℕ) (v p k : ℕ) → (0 < k → 48 ≤ get_or s p 0 → 57 < get_or s p 0) → record { value = v; next = p } ≡ number_at s k v p
 unfolding number_at
-none s m i p v h = let e : m - i ≡ 0 = omega arith in rw e
+stop s v p zero h = refl
+stop s v p (suc k) h = by (ltb (get_or s p 0) 48) refl
+  where
+    by : (b : Bool) → ltb (get_or s p 0) 48 ≡ b → record { value = v; next = p } ≡ number_at s (suc k) v p
+    by true e = rw e
+    by false e = rw (e, lt-ltb 57 (get_or s p 0) (h (omega arith) (ltb-false (get_or s p 0) 48 e)))
 
-pub loop-i-init : goal.loop-i-init
-loop-i-init c = (omega arith, omega arith, rw add-zero)
+-- where one stands, it goes on
+on : (s : List ℕ) (v p k : ℕ) → 0 < k → 48 ≤ get_or s p 0 → get_or s p 0 ≤ 57 → number_at s (k - 1) (v * 10 + (get_or s p 0 - 48)) (p + 1) ≡ number_at s k v p
+unfolding number_at
+on s v p zero l h g = absurd (omega arith)
+on s v p (suc k) l h g =
+    let e : suc k - 1 ≡ k = omega arith in
+    rw (e, le-ltb (get_or s p 0) 48 h, le-ltb 57 (get_or s p 0) g)
 
-pub returns-then-s-p : goal.returns-then-s-p
-returns-then-s-p c =
-    (sym (past _ 4 _ _ _ c.loop-i-test.true c.if-s-p.true) ∙ c.loop-i.invariant.2, small _ _ c.loop-i.invariant.0 c.loop-i.invariant.1, omega (arith, c.loop-i.invariant.0))
+pub returns-then-next-s : goal.returns-then-next-s
+returns-then-next-s c =
+    let b = get_or c.args.s.now c.loop-next.next 0 in
+    let ends : 0 < c.args.at + 4 - c.loop-next.next → 48 ≤ b → 57 < b = elim c.then-next-s.branch [
+      | then-next-s-via-then-next-s w ↦ λ l h. omega (arith, get_or-eq_default {A = ℕ})
+      | then-next-s-via-else-next-s+then-not-is_ascii_digit w ↦ λ l h. omega (arith, w.if-not-is_ascii_digit.ensures.cases)
+    ] in
+    (stop _ _ _ _ ends ∙ c.loop-next.invariant.1, small _ _ (omega arith) c.loop-next.invariant.0, search rules)
 
-pub returns-then-b-lt48 : goal.returns-then-b-lt48
-returns-then-b-lt48 c =
-    (sym (low _ 4 _ _ _ c.loop-i-test.true c.if-b-lt48.true) ∙ c.loop-i.invariant.2, small _ _ c.loop-i.invariant.0 c.loop-i.invariant.1, omega (arith, c.loop-i.invariant.0))
-
-pub returns-then-b-gt57 : goal.returns-then-b-gt57
-returns-then-b-gt57 c =
-    (sym (high _ 4 _ _ _ c.loop-i-test.true c.if-b-lt48.false c.if-b-gt57.true) ∙ c.loop-i.invariant.2, small _ _ c.loop-i.invariant.0 c.loop-i.invariant.1, omega (arith, c.loop-i.invariant.0))
-
-pub overflow_mul-value : goal.overflow_mul-value
-overflow_mul-value c =
-    omega (arith, small _ _ c.loop-i.invariant.0 c.loop-i.invariant.1)
-
-pub overflow_add-value : goal.overflow_add-value
-overflow_add-value c =
-    omega (arith, small _ _ c.loop-i.invariant.0 c.loop-i.invariant.1, c.if-b-gt57.false)
-
-pub loop-i-preserved : goal.loop-i-preserved
-loop-i-preserved c =
-    (omega (arith, c.loop-i-test.true), grow _ _ _ c.loop-i.invariant.1 (omega (arith, c.if-b-lt48.false, c.if-b-gt57.false)), more _ 4 _ _ c.loop-i.value c.loop-i-test.true c.if-b-lt48.false c.if-b-gt57.false ∙ c.loop-i.invariant.2)
+pub loop-next-preserved : goal.loop-next-preserved
+loop-next-preserved c =
+    let i : c.loop-next.next + 1 - c.args.at ≡ c.loop-next.next - c.args.at + 1 = omega arith in
+    let k : c.args.at + 4 - (c.loop-next.next + 1) ≡ c.args.at + 4 - c.loop-next.next - 1 = omega arith in
+    let d = c.if-not-is_ascii_digit.ensures.cases in
+    (rw i (grow _ _ _ c.loop-next.invariant.0 (omega (arith, d))), rw k (on _ _ _ _ (omega arith) d.0 d.1) ∙ c.loop-next.invariant.1)
 
 pub returns : goal.returns
 returns c =
-    (sym (none _ 4 _ _ _ c.loop-i-test.false) ∙ c.loop-i.invariant.2, small _ _ c.loop-i.invariant.0 c.loop-i.invariant.1, omega (arith, c.loop-i.invariant.0))
+    let n : c.loop-next.next ≡ c.args.at + 4 = omega arith in
+    (rw (← n) (stop _ _ _ _ (λ l. absurd (omega arith)) ∙ c.loop-next.invariant.1), small _ _ (omega arith) c.loop-next.invariant.0, search rules)

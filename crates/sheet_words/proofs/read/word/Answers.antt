@@ -1,24 +1,17 @@
--- `sheet_words::read::word` meets its contract. The invariant: the digits that are left, after the word so far, give the whole word. Assumes nothing.
-use mathlib.Core.Path.{◌≡◌, sym, ◌∙◌}
-use mathlib.Core.List.{List}
-use Prim.Native.Nat.{ℕ, suc, ◌+◌, ◌-◌, ◌*◌, ◌^◌, ◌≤◌, ◌<◌}
-use native.Mathlib.Nat.{add-zero, lt_of_lt_of_le}
-use native.Mathlib.Omega.{arith}
-use lib.Pow.{pow-add, pow_mono}
-use lib.ListN.{get_or}
+-- `sheet_words::read::word` meets its contract. Assumes nothing.
+use Rattle.std.proofs.Common.{◌≡◌, ℕ, List, suc, ◌+◌, ◌-◌, ◌*◌, ◌<◌, ◌≤◌, ◌∙◌, get_or, take, drop, length, ap, arith, Option, Some, None}
+use Rattle.std.specs.Option.{unwrap_or, IfSome}
+use lib.Seq.{length-take-le}
+use Rattle.std.proofs.lemmas.List.{length-drop, get_or-take, get_or-drop}
+use Rattle.bits.specs.Hex as Hex
+use Rattle.bits.proofs.Digits.{grow, room}
 use Rattle.model.specs.Text.{digit_of, digits_from}
-use borrow.Author.Rules.{rules}
 use Rattle.sheet_words.proofs.read.word.Goals as goal
 
--- one digit more is four binary places more
-grow : (i w d : ℕ) → w < 2 ^ (4 * i) → d ≤ 15 → w * 16 + d < 2 ^ (4 * (i + 1))
-grow i w d h g =
-    let e : 4 * (i + 1) ≡ 4 * i + 4 = omega arith in
-    rw (e, pow-add 2 (4 * i) 4) (omega arith)
-
--- so that 16 digits make a word
-room : (i w d : ℕ) → i < 16 → w < 2 ^ (4 * i) → d ≤ 15 → w * 16 + d < 2 ^ 64
-room i w d l h g = lt_of_lt_of_le (grow i w d h g) (pow_mono {i = 4 * (i + 1)} {j = 64} (omega arith))
+-- the digit's value, and 0 where there is none
+same : (b : ℕ) → unwrap_or (Hex.digit_of b) 0 ≡ digit_of b
+unfolding Hex.digit_of digit_of
+same b = grind (arith)
 
 module _ (s : List ℕ) (m i at w d : ℕ) (inside : i < m) (is : d ≡ digit_of (get_or s (at + i) 0)) where
   left : m - i ≡ suc (m - (i + 1))
@@ -28,25 +21,41 @@ module _ (s : List ℕ) (m i at w d : ℕ) (inside : i < m) (is : d ≡ digit_of
   unfolding digits_from
   more = let e : at + (i + 1) ≡ at + i + 1 = omega arith in rw (left, is, e)
 
-none : (s : List ℕ) (m i at w : ℕ) → m ≤ i → digits_from s (m - i) at w ≡ w
+none : (s : List ℕ) (m i at w : ℕ) → m ≤ i → w ≡ digits_from s (m - i) at w
 unfolding digits_from
 none s m i at w h = let e : m - i ≡ 0 = omega arith in rw e
 
-pub loop-i-init : goal.loop-i-init
-loop-i-init c = (omega arith, omega arith, rw add-zero)
+small : (o : Option ℕ) → IfSome o (λ d. d < 16) → unwrap_or o 0 < 16
+small None h = omega arith
+small (Some d) h = h
+
+-- the 16 bytes from a place on
+module _ (s : List ℕ) (at : ℕ) (h : at + 16 ≤ length s) where
+  abbrev piece : List ℕ
+  piece = take (at + 16 - at) (drop at s)
+
+  sixteen : length piece ≡ 16
+  sixteen = omega (arith, length-take-le (at + 16 - at) (drop at s), length-drop at s)
+
+  byte : (i : ℕ) → i < 16 → get_or piece i 0 ≡ get_or s (at + i) 0
+  byte i l = get_or-take (at + 16 - at) (drop at s) i 0 (omega arith) ∙ get_or-drop at s i 0
 
 pub overflow_mul-word : goal.overflow_mul-word
-overflow_mul-word c =
-    omega (arith, room _ _ 0 c.loop-i-test.true c.loop-i.invariant.1 (omega arith))
+overflow_mul-word c = let n = sixteen _ c.args.at c.requires in omega (arith, room c.loop-b.b-index c.loop-b.word 0 (omega arith) c.loop-b.invariant.0 (omega arith))
 
 pub overflow_add-word : goal.overflow_add-word
 overflow_add-word c =
-    omega (arith, room _ _ _ c.loop-i-test.true c.loop-i.invariant.1 c.digit.ensures.upper_bound)
+    let n = sixteen _ c.args.at c.requires in
+    let d = small _ c.digit.ensures.below in
+    omega (arith, room c.loop-b.b-index c.loop-b.word (unwrap_or c.digit.result 0) (omega arith) c.loop-b.invariant.0 d, c.unwrap_or.ensures)
 
-pub loop-i-preserved : goal.loop-i-preserved
-loop-i-preserved c =
-    (search rules, grow _ _ _ c.loop-i.invariant.1 c.digit.ensures.upper_bound, more _ 16 _ _ c.loop-i.word _ c.loop-i-test.true c.digit.ensures.value ∙ c.loop-i.invariant.2)
+pub loop-b-preserved : goal.loop-b-preserved
+loop-b-preserved c =
+    let l = c.loop-b in
+    let n = sixteen _ c.args.at c.requires in
+    let d = small _ c.digit.ensures.below in
+    let e = ap (λ o. unwrap_or o 0) c.digit.ensures.value ∙ same _ ∙ ap digit_of (byte _ _ c.requires l.b-index (omega arith)) in
+    rw c.unwrap_or.ensures (grow _ _ _ l.invariant.0 d, more _ 16 _ _ l.word _ (omega arith) e ∙ l.invariant.1)
 
 pub returns : goal.returns
-returns c =
-    sym (none _ 16 _ _ _ c.loop-i-test.false) ∙ c.loop-i.invariant.2
+returns c = let n = sixteen _ c.args.at c.requires in none _ 16 _ _ _ (omega arith) ∙ c.loop-b.invariant.1

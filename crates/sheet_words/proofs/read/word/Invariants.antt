@@ -1,12 +1,7 @@
 -- `sheet_words::read::word` meets its contract. The invariant: the digits that are left, after the word so far, give the whole word. Assumes nothing.
-use mathlib.Core.Path.{◌≡◌}
-use Prim.Native.Nat.{◌+◌, ◌-◌, ◌*◌, ◌^◌, ◌≤◌, ◌<◌}
+use Rattle.std.proofs.Common.{◌≡◌, ◌+◌, ◌-◌, ◌*◌, ◌^◌, ◌<◌}
 use Rattle.model.specs.Text.{digits_from}
 use Rattle.sheet_words.proofs.read.word.Given as goal
 
-abbrev pub invariant-loop-i : goal.invariant-loop-i
-invariant-loop-i l =
-    (l.i ≤ 16) × (l.word < 2 ^ (4 * l.i)) × (digits_from l.s (16 - l.i) (l.at + l.i) l.word ≡ digits_from l.s 16 l.at 0)
-
-abbrev pub decreases-loop-i : goal.decreases-loop-i
-decreases-loop-i l = 16 - l.i
+abbrev pub invariant-loop-b : goal.invariant-loop-b
+invariant-loop-b l = (l.word < 2 ^ (4 * l.b-index)) × (digits_from l.s (16 - l.b-index) (l.at + l.b-index) l.word ≡ digits_from l.s 16 l.at 0)
