@@ -147,20 +147,24 @@ impl Scaled {
         }
     }
 
-    // At most twenty rounds, left as soon as neither bound is met.
-    #[tactic(auto, unfolding(model::specs::Schur22::rescaled))]
+    // At most twenty rounds, left as soon as neither bound is met. Document 01 names this form: a loop left from
+    // inside by break with the scaled pair.
     fn rescaled(self) -> Scaled
         ensures { scaled result ≡ Schur22.rescaled binary64 20 (scaled self) }
     {
         let mut s = self;
-        for _ in 0..20u32 {
+        let mut left: usize = 20;
+        loop {
+            if left == 0 {
+                break s;
+            }
             let scale = s.scale();
             if !bound_met(scale) {
-                break;
+                break s;
             }
             s = s.rescale(scale);
+            left -= 1;
         }
-        s
     }
 }
 
