@@ -23,7 +23,8 @@ struct Pivot {
     col: usize,
 }
 
-// The system t * x = b of four rows, and its least pivot. A step or a place is a bare number below
+// The system t * x = b of four rows, and its least pivot, which goes through its steps by value, as document 01
+// asks of t. A step or a place is a bare number below
 // 4, as the loops below count it: as a struct it would be made anew at each turn of each loop.
 #[derive(Clone, Copy)]
 struct System {
@@ -153,68 +154,69 @@ impl System {
 
     // The pivot p brought to (i, i).
     #[tactic(auto, using(crate::proofs::Left::left_suc, std::proofs::lemmas::List::Edits::swap_is), unfolding(crate::proofs::Order::cols_from, model::specs::Lasy2::swap_places))]
-    fn exchange(&mut self, i: usize, p: Pivot)
+    fn exchange(mut self, i: usize, p: Pivot) -> System
         requires { i < 4 }
-        ensures t { self.new.t ≡ Lasy2.swap_cols (Lasy2.swap_rows self.old.t p.row i) p.col i }
-        ensures b { self.new.b ≡ Lasy2.swap_places self.old.b p.row i }
-        ensures smin { self.new.smin ≡ self.old.smin }
+        ensures t { result.t ≡ Lasy2.swap_cols (Lasy2.swap_rows self.t p.row i) p.col i }
+        ensures b { result.b ≡ Lasy2.swap_places self.b p.row i }
+        ensures smin { result.smin ≡ self.smin }
     {
         self.t.swap(p.row, i);
         self.b.swap(p.row, i);
         for row in &mut self.t {
             row.swap(p.col, i);
         }
+        self
     }
 
     // A diagonal number below smin in magnitude becomes smin.
     #[tactic(auto, unfolding(model::specs::Lasy2::raised))]
-    fn raise(&mut self, i: usize)
+    fn raised(mut self, i: usize) -> System
         requires { i < 4 }
-        ensures { self.new ≡ record self.old { t = Lasy2.raised self.old.t i self.old.smin } }
+        ensures { result ≡ record self { t = Lasy2.raised self.t i self.smin } }
     {
         if abs(self.t[i][i]) < self.smin {
             self.t[i][i] = self.smin;
         }
+        self
     }
 
     // Column i cleared below (i, i).
     #[tactic(auto, using(crate::proofs::Left::left_suc), unfolding(model::specs::Lasy2::eliminate, model::specs::Lasy2::eliminate_from))]
-    fn eliminate(&mut self, i: usize)
+    fn eliminate(mut self, i: usize) -> System
         requires { i < 4 }
-        ensures { self.new ≡ record self.old { t = Lasy2.eliminate binary64 i self.old.t } }
+        ensures { result ≡ record self { t = Lasy2.eliminate binary64 i self.t } }
     {
         for j in i + 1..4 {
             self.t[j] = reduced_row(self.t[i], i, self.t[j]);
         }
+        self
     }
 
     // The same of the right-hand side, by the multipliers that then stand in column i.
     #[tactic(auto, using(crate::proofs::Left::left_suc), unfolding(model::specs::Lasy2::rhs_from))]
-    fn eliminate_rhs(&mut self, i: usize)
+    fn eliminate_rhs(mut self, i: usize) -> System
         requires { i < 4 }
-        ensures { self.new ≡ record self.old { b = Lasy2.rhs_from binary64 self.old.t i (4 - (i + 1)) (i + 1) self.old.b } }
+        ensures { result ≡ record self { b = Lasy2.rhs_from binary64 self.t i (4 - (i + 1)) (i + 1) self.b } }
     {
         for j in i + 1..4 {
             self.b[j] -= self.t[j][i] * self.b[i];
         }
+        self
     }
 
     // Step i of the elimination, and the column that its pivot stood in.
     #[tactic(auto, unfolding(model::specs::Lasy2::reduced, model::specs::Lasy2::reduced_rhs))]
-    fn step(&mut self, i: usize) -> usize
+    fn step(self, i: usize) -> (System, usize)
         requires { i < 4 }
-        ensures t { self.new.t ≡ Lasy2.reduced binary64 i (Lasy2.pivot binary64 self.old.t i) self.old.smin self.old.t }
-        ensures b { self.new.b ≡ Lasy2.reduced_rhs binary64 self.new.t i (Lasy2.pivot binary64 self.old.t i) self.old.b }
-        ensures smin { self.new.smin ≡ self.old.smin }
-        ensures col { result ≡ (Lasy2.pivot binary64 self.old.t i).col }
-        ensures inside { result < 4 }
+        ensures t { result.0.t ≡ Lasy2.reduced binary64 i (Lasy2.pivot binary64 self.t i) self.smin self.t }
+        ensures b { result.0.b ≡ Lasy2.reduced_rhs binary64 result.0.t i (Lasy2.pivot binary64 self.t i) self.b }
+        ensures smin { result.0.smin ≡ self.smin }
+        ensures col { result.1 ≡ (Lasy2.pivot binary64 self.t i).col }
+        ensures inside { result.1 < 4 }
     {
         let p = self.pivot(i);
-        self.exchange(i, p);
-        self.raise(i);
-        self.eliminate(i);
-        self.eliminate_rhs(i);
-        p.col
+        let s = self.exchange(i, p).raised(i).eliminate(i);
+        (s.eliminate_rhs(i), p.col)
     }
 
     // Whether a number of b is so large in any row: by `any` over the rows the proof does not close.
@@ -271,16 +273,19 @@ impl System {
 
     // x and its scale, with the order of the columns undone.
     #[tactic(auto, using(crate::proofs::Left::left_suc), unfolding(crate::proofs::Steps::steps, crate::proofs::Steps::step))]
-    fn solve(mut self) -> Solution
+    fn solve(self) -> Solution
         ensures { solution result ≡ Lasy2.solved binary64 self.smin self.t self.b }
     {
+        let mut s = self;
         let mut cols = [0; 3];
         for i in 0..3 {
-            cols[i] = self.step(i);
+            let (next, col) = s.step(i);
+            s = next;
+            cols[i] = col;
         }
-        self.raise(3);
-        let scale = self.scale_rhs();
-        let mut x = self.back();
+        let mut s = s.raised(3);
+        let scale = s.scale_rhs();
+        let mut x = s.back();
         for i in (0..3).rev() {
             x.swap(i, cols[i]);
         }

@@ -13,6 +13,6 @@ unfolding steps undone
 returns c =
     let left : 3 - c.loop-i.i ≡ 0 = omega arith in
     let undo : c.loop-i-2.i ≡ 0 = omega arith in
-    let t = ap (λ (s : System). s.t) c.raise.ensures in
-    let b = ap (λ (s : System). s.b) c.raise.ensures in
+    let t = ap (λ (s : System). s.t) c.raised-s.ensures in
+    let b = ap (λ (s : System). s.b) c.raised-s.ensures in
     ends _ _ _ _ _ _ _ _ (rw left at c.loop-i.invariant.steps) (rw (c.back-x.ensures, undo) at c.loop-i-2.invariant) (cc c.loop-i.invariant.smin) (cc)

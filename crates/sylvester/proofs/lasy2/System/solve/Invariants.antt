@@ -5,8 +5,8 @@ use Rattle.sylvester.proofs.lasy2.System.solve.Given as goal
 
 abbrev pub invariant-loop-i : goal.invariant-loop-i
 invariant-loop-i l = record {
-  smin : l.self.smin ≡ l.fn.self.smin;
-  steps : steps l.fn.self.smin (3 - l.i) l.i (record { t = l.self.t; b = l.self.b; cols = l.cols }) ≡ steps l.fn.self.smin 3 0 (record { t = l.fn.self.t; b = l.fn.self.b; cols = 0 ∷ 0 ∷ 0 ∷ [] });
+  smin : l.s.smin ≡ l.fn.self.smin;
+  steps : steps l.fn.self.smin (3 - l.i) l.i (record { t = l.s.t; b = l.s.b; cols = l.cols }) ≡ steps l.fn.self.smin 3 0 (record { t = l.fn.self.t; b = l.fn.self.b; cols = 0 ∷ 0 ∷ 0 ∷ [] });
   inside : (k : ℕ) → get_or l.cols k 0 < 4;
 }
 
