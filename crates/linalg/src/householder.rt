@@ -72,8 +72,8 @@ pub fn make_householder(head: f64, tail: &mut [f64]) -> Reflection
     if tail_norm < MIN_POSITIVE {
         return Reflection {
             head,
-            tau: 1.0 / 0.0,
-            head_with_beta_inv: 1.0 / 0.0,
+            tau: f64::INFINITY,
+            head_with_beta_inv: f64::INFINITY,
             norm: abs(head),
         };
     }

@@ -1,6 +1,6 @@
--- `linalg::jacobi::rotg_larger` meets its contract. Assumes nothing.
+-- `linalg::jacobi::Numbers::larger` meets its contract. Assumes nothing.
 use Rattle.model.specs.Jacobi.{rotg_larger}
-use Rattle.linalg.proofs.jacobi.rotg_larger.Goals as goal
+use Rattle.linalg.proofs.jacobi.Numbers.larger.Goals as goal
 
 pub returns-then-abs : goal.returns-then-abs
 unfolding rotg_larger
