@@ -5,6 +5,7 @@ use Prim.Native.Nat.{ℕ, zero, suc, ◌+◌, ◌-◌, ◌*◌, ◌/◌, ◌%◌
 use native.Mathlib.Nat.{mul-le-mul, div-le_of_le-mul, div-add-mod', mod-lt}
 use native.Mathlib.Omega.{arith}
 use Rattle.model.specs.Root.{root}
+use Rattle.digits.specs.declared.whole.Radicand.{Radicand}
 use Rattle.laws.specs.RootNearest.{IsRoot}
 use Rattle.laws.proofs.WholeRoot.{root_is, root_unique, le_root, root_lt}
 use Rattle.digits.proofs.whole.Radicand.whole_root.Goals as goal
@@ -50,47 +51,47 @@ module _ (d s q u : ℕ) (p : Parted d s q u) where
       root_unique (d * 2 ^ 54) r (omega arith, omega arith)
 
 -- what the root of d is parted into
-parts : (d s : ℕ) → 2 ^ 52 ≤ d → d < 2 ^ 54 → s ≡ root d → Parted d s ((d - s * s) * 2 ^ 27 / (s * 2)) ((d - s * s) * 2 ^ 27 % (s * 2))
-parts d s low high e = parted d s low high (rw e (root_is d))
+parts : (d : Radicand) {s : ℕ} → s ≡ root d.digits → Parted d.digits s ((d.digits - s * s) * 2 ^ 27 / (s * 2)) ((d.digits - s * s) * 2 ^ 27 % (s * 2))
+parts d {s} e = parted d.digits s d.least d.most (rw e (root_is d.digits))
 
 pub overflow_mul-rest : goal.overflow_mul-rest
-overflow_mul-rest c = let p = parts c.args.self.digits c.small_root-s.result c.args.self.least c.args.self.most c.small_root-s.ensures in omega arith
+overflow_mul-rest c = let p = parts c.args.self c.small_root-s.ensures in omega arith
 
 pub overflow_sub-rest : goal.overflow_sub-rest
-overflow_sub-rest c = let p = parts c.args.self.digits c.small_root-s.result c.args.self.least c.args.self.most c.small_root-s.ensures in omega arith
+overflow_sub-rest c = let p = parts c.args.self c.small_root-s.ensures in omega arith
 
 pub overflow_mul-rest-2 : goal.overflow_mul-rest-2
-overflow_mul-rest-2 c = let p = parts c.args.self.digits c.small_root-s.result c.args.self.least c.args.self.most c.small_root-s.ensures in omega arith
+overflow_mul-rest-2 c = let p = parts c.args.self c.small_root-s.ensures in omega arith
 
 pub overflow_mul-q : goal.overflow_mul-q
-overflow_mul-q c = let p = parts c.args.self.digits c.small_root-s.result c.args.self.least c.args.self.most c.small_root-s.ensures in omega arith
+overflow_mul-q c = let p = parts c.args.self c.small_root-s.ensures in omega arith
 
 pub nonzero_div-q : goal.nonzero_div-q
-nonzero_div-q c = let p = parts c.args.self.digits c.small_root-s.result c.args.self.least c.args.self.most c.small_root-s.ensures in omega arith
+nonzero_div-q c = let p = parts c.args.self c.small_root-s.ensures in omega arith
 
 pub overflow_mul-u : goal.overflow_mul-u
-overflow_mul-u c = let p = parts c.args.self.digits c.small_root-s.result c.args.self.least c.args.self.most c.small_root-s.ensures in omega arith
+overflow_mul-u c = let p = parts c.args.self c.small_root-s.ensures in omega arith
 
 pub nonzero_rem-u : goal.nonzero_rem-u
-nonzero_rem-u c = let p = parts c.args.self.digits c.small_root-s.result c.args.self.least c.args.self.most c.small_root-s.ensures in omega arith
+nonzero_rem-u c = let p = parts c.args.self c.small_root-s.ensures in omega arith
 
 pub overflow_mul-r : goal.overflow_mul-r
-overflow_mul-r c = let p = parts c.args.self.digits c.small_root-s.result c.args.self.least c.args.self.most c.small_root-s.ensures in omega arith
+overflow_mul-r c = let p = parts c.args.self c.small_root-s.ensures in omega arith
 
 pub overflow_add-r : goal.overflow_add-r
-overflow_add-r c = let p = parts c.args.self.digits c.small_root-s.result c.args.self.least c.args.self.most c.small_root-s.ensures in omega arith
+overflow_add-r c = let p = parts c.args.self c.small_root-s.ensures in omega arith
 
 pub overflow_mul-q-2 : goal.overflow_mul-q-2
-overflow_mul-q-2 c = let p = parts c.args.self.digits c.small_root-s.result c.args.self.least c.args.self.most c.small_root-s.ensures in omega (arith, mul-le-mul p.little p.little)
+overflow_mul-q-2 c = let p = parts c.args.self c.small_root-s.ensures in omega (arith, mul-le-mul p.little p.little)
 
 pub overflow_mul-u-2 : goal.overflow_mul-u-2
-overflow_mul-u-2 c = let p = parts c.args.self.digits c.small_root-s.result c.args.self.least c.args.self.most c.small_root-s.ensures in omega arith
+overflow_mul-u-2 c = let p = parts c.args.self c.small_root-s.ensures in omega arith
 
 pub overflow_sub-result : goal.overflow_sub-result
-overflow_sub-result c = let p = parts c.args.self.digits c.small_root-s.result c.args.self.least c.args.self.most c.small_root-s.ensures in omega arith
+overflow_sub-result c = let p = parts c.args.self c.small_root-s.ensures in omega arith
 
 pub returns-then-q-u : goal.returns-then-q-u
-returns-then-q-u c = kept _ _ _ _ (parts c.args.self.digits c.small_root-s.result c.args.self.least c.args.self.most c.small_root-s.ensures) c.if-q-u.true
+returns-then-q-u c = kept _ _ _ _ (parts c.args.self c.small_root-s.ensures) c.if-q-u.true
 
 pub returns-else-q-u : goal.returns-else-q-u
-returns-else-q-u c = let p = parts c.args.self.digits c.small_root-s.result c.args.self.least c.args.self.most c.small_root-s.ensures in lowered _ _ _ _ p _ c.if-q-u.false (omega arith)
+returns-else-q-u c = let p = parts c.args.self c.small_root-s.ensures in lowered _ _ _ _ p _ c.if-q-u.false (omega arith)

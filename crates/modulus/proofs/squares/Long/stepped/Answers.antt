@@ -20,30 +20,28 @@ overflow_add-k-2 c =
     omega (arith, short _ _ c.args.self.most c.whole_root.ensures, div-le_self ((c.whole_root.result + 1) / 2) (2 ^ c.args.s))
 
 pub square-requires : goal.square-requires
-square-requires c =
-    let n = c.args.self in
-    fits (n.least, n.most, n.whole.short, c.requires) c.whole_root.ensures
+square-requires c = fits c.args.self c.requires c.whole_root.ensures
 
 pub returns-in-Less : goal.returns-in-Less
 returns-in-Less c =
     let n = c.args.self in
     let h = by_limbs c.square.result n.whole Less c.in-Less.ensures in
-    steps (n.least, n.most, n.whole.short, c.requires) c.whole_root.ensures c.square.ensures n.rest (omega (arith, h)) (λ e. absurd (omega (arith, h, e)))
+    steps n c.requires c.whole_root.ensures c.square.ensures (omega (arith, h)) (λ e. absurd (omega (arith, h, e)))
 
 pub returns-in-Equal : goal.returns-in-Equal
 returns-in-Equal c =
     let n = c.args.self in
     let h = by_limbs c.square.result n.whole Equal c.in-Equal.ensures in
-    ties (n.least, n.most, n.whole.short, c.requires) c.whole_root.ensures c.square.ensures n.rest h c.if-self-eq0.true
+    ties n c.requires c.whole_root.ensures c.square.ensures h c.if-self-eq0.true
 
 pub returns-in-Equal-2 : goal.returns-in-Equal-2
 returns-in-Equal-2 c =
     let n = c.args.self in
     let h = by_limbs c.square.result n.whole Equal c.in-Equal-2.ensures in
-    steps (n.least, n.most, n.whole.short, c.requires) c.whole_root.ensures c.square.ensures n.rest (omega (arith, h)) (λ e z. absurd (c.if-self-eq0.false z))
+    steps n c.requires c.whole_root.ensures c.square.ensures (omega (arith, h)) (λ e z. absurd (c.if-self-eq0.false z))
 
 pub returns-in-Greater : goal.returns-in-Greater
 returns-in-Greater c =
     let n = c.args.self in
     let h = by_limbs c.square.result n.whole Greater c.in-Greater.ensures in
-    stays (n.least, n.most, n.whole.short, c.requires) c.whole_root.ensures c.square.ensures n.rest (omega (arith, h)) (λ e. absurd (omega (arith, h, e)))
+    stays n c.requires c.whole_root.ensures c.square.ensures (omega (arith, h)) (λ e. absurd (omega (arith, h, e)))
