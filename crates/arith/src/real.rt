@@ -4,19 +4,17 @@ ghost use Rattle.std.specs.Float.{binary64};
 ghost use Rattle.model.specs.Arith as Arith;
 
 // 2^-52.
-pub const EPS: f64 = 2.220446049250313e-16;
+pub const EPS: f64 = f64::EPSILON;
 
 // 2^-1022, the smallest normal number.
-pub const MIN_POSITIVE: f64 = 2.2250738585072014e-308;
+pub const MIN_POSITIVE: f64 = f64::MIN_POSITIVE;
 
 // The magnitude: both zeros give +0.
+#[tactic(auto, using(crate::proofs::Hypot::magnitude))]
 pub fn abs(x: f64) -> f64
     ensures { result ≡ Arith.abs x }
 {
-    if x < 0.0 {
-        return -x;
-    }
-    if x == 0.0 { 0.0 } else { x }
+    x.abs()
 }
 
 // The magnitude, by the name that it has for a complex number's two parts added.
@@ -51,12 +49,12 @@ pub fn mul_pow2(x: f64, p: f64) -> f64
 pub fn fmax(p: f64, q: f64) -> f64
     ensures { result ≡ Arith.fmax p q }
 {
-    if p > q || q != q { p } else { q }
+    if p > q || q.is_nan() { p } else { q }
 }
 
 // p where p < q or q is a NaN, else q.
 pub fn fmin(p: f64, q: f64) -> f64
     ensures { result ≡ Arith.fmin p q }
 {
-    if p < q || q != q { p } else { q }
+    if p < q || q.is_nan() { p } else { q }
 }

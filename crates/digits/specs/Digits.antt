@@ -1,5 +1,6 @@
 -- What the functions of `digits` hand to one another and out. Assumes nothing.
-use Rattle.std.specs.Prelude.{◌≡◌, ℕ, ◌+◌, ◌-◌, ◌*◌, ◌/◌, ◌%◌, ◌^◌, ◌≤◌, ◌<◌, cond, ltb}
+use Rattle.std.specs.Prelude.{◌≡◌, ℕ, ◌+◌, ◌-◌, ◌*◌, ◌/◌, ◌%◌, ◌^◌, ◌≤◌, ◌<◌, cond, ltb, Option, None, Some, IfSome}
+use Rattle.std.specs.Option.{option_map}
 use Rattle.std.specs.Float.{binary64}
 use Rattle.laws.specs.RootNearest.{pattern_value}
 
@@ -47,15 +48,22 @@ pub record NewtonStep (d y root inverse : ℕ) : Type 0 where
   pub of-root : root ≡ t_of d y * step_of d y / 0x8000_0000 % 0x1_0000_0000
   pub of-inverse : inverse ≡ y * step_of d y / 0x8000_0000 % 0x1_0000_0000
 
--- the digits of s, and those of what is left of x over twice s; 2 ^ 53 where s is not near
-abbrev pub half_of : ℕ → ℕ → ℕ → ℕ
-half_of x s inverse = cond (ltb x (s * s)) (2 ^ 53) (cond (ltb (x - s * s) 0xf_0000_0000) (s * 0x20_0000 + ((x - s * s) / 16 * inverse + 0x41_0000_0000) / 0x80_0000_0000) (2 ^ 53))
+-- what is left of x without y, where that is at least 0 and below the end
+abbrev pub left_of : ℕ → ℕ → ℕ → Option ℕ
+left_of x y end = cond (ltb x y) None (cond (ltb (x - y) end) (Some (x - y)) None)
+
+-- r is that
+pub record Left (x y end : ℕ) (r : Option ℕ) : Type 0 where
+  pub is : r ≡ left_of x y end
+
+-- the digits of s, and those of what is left of x over twice s; none where s is not near
+abbrev pub half_of : ℕ → ℕ → ℕ → Option ℕ
+half_of x s inverse = option_map (λ (r : ℕ). s * 0x20_0000 + (r / 16 * inverse + 0x41_0000_0000) / 0x80_0000_0000) (left_of x (s * s) 0xf_0000_0000)
 
 -- r is that of a step of Newton's from y
-pub record NearHalf (d x y r : ℕ) : Type 0 where
+pub record NearHalf (d x y : ℕ) (r : Option ℕ) : Type 0 where
   pub root : ℕ
   pub inverse : ℕ
   pub step : NewtonStep d y root inverse
   pub is : r ≡ half_of x root inverse
-  pub least : 1 < r
-  pub most : r < 2 ^ 54
+  pub fits : IfSome r (λ k. (1 < k) × (k < 2 ^ 54))

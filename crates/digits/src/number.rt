@@ -3,7 +3,18 @@ ghost use Rattle.std.specs.Prelude.{◌*◌, ◌<◌, ◌^◌};
 ghost use Rattle.digits.specs.Digits.{Significand, Shift};
 
 // The weight of the exponent's field.
-const HIDDEN: u64 = 0x10_0000_0000_0000;
+pub const HIDDEN: u64 = 0x10_0000_0000_0000;
+
+// The pattern of plus infinity: those of the finite numbers above zero are below it.
+pub const INFINITE: u64 = 0x7ff0_0000_0000_0000;
+
+// The pattern of a finite number above zero.
+#[derive(Clone, Copy)]
+pub struct Positive {
+    pub bits: u64,
+    pub ghost some: { 0 < bits },
+    pub ghost finite: { bits < 0x7ff0_0000_0000_0000 },
+}
 
 // The number digits * 2^power.
 #[derive(Clone, Copy)]
@@ -12,22 +23,21 @@ pub struct Scaled {
     pub power: u64,
 }
 
-// The significand of the finite number of pattern b, with the leading digit that the pattern of a
-// normal number leaves out, and its power, counted in smallest numbers.
-pub fn significand(b: u64) -> Scaled
-    requires { (0 < b) × (b < 0x7ff0_0000_0000_0000) }
-    ensures { Significand b result.digits result.power }
-{
-    let e = b / HIDDEN;
-    if e == 0 {
-        Scaled {
-            digits: b,
-            power: 0,
-        }
-    } else {
-        Scaled {
-            digits: HIDDEN + b % HIDDEN,
-            power: e - 1,
+impl Positive {
+    // The significand, with the leading digit that the pattern of a normal number leaves out, and its
+    // power, counted in smallest numbers.
+    pub fn significand(self) -> Scaled
+        ensures { Significand self.bits result.digits result.power }
+    {
+        match self.bits / HIDDEN {
+            0 => Scaled {
+                digits: self.bits,
+                power: 0,
+            },
+            e => Scaled {
+                digits: HIDDEN + self.bits % HIDDEN,
+                power: e - 1,
+            },
         }
     }
 }
@@ -37,5 +47,5 @@ pub fn shift_of(t: u64) -> u32
     requires { (0 < t) × (t < 2 ^ 53) }
     ensures { Shift t result }
 {
-    u64::leading_zeros(t) - 11
+    t.leading_zeros() - 11
 }

@@ -1,9 +1,7 @@
--- A NaN goes through rotg, and only a NaN differs from itself. Assumes nothing.
-use mathlib.Core.Path.{◌≡◌, refl, sym, subst}
-use mathlib.Core.Bool.{Bool, true, false, cond, ◌||◌}
-use lib.Dec.{T}
-use lib.Ieee.{Float, Format, nan, inf, fin, add, mul, div, neg, eq, ne, lt, is_nan}
-use lib.Ieee.Compare.{differs_from_itself}
+-- A NaN goes through rotg. Assumes nothing.
+use mathlib.Core.Path.{◌≡◌, refl, sym}
+use mathlib.Core.Bool.{Bool, true, false, cond, ◌||◌, true≢false}
+use lib.Ieee.{Float, Format, nan, inf, fin, add, mul, div, neg, eq, lt, is_nan}
 use Rattle.model.specs.Root.{sqrt}
 use Rattle.model.specs.Arith.{zero_of, abs, fmax}
 use Rattle.model.specs.Jacobi.{rotg_scale, rotg_norm, rotg_signed, rotg_larger, rotg}
@@ -48,11 +46,14 @@ signed_nan : (f : Format) (p : Float) → rotg_signed f p nan ≡ nan
 unfolding rotg_signed neg
 signed_nan f p = rw (norm_nan f p) (either (lt (zero_of f) (rotg_larger p nan)))
 
-pub differs : (x : Float) → ne x x ≡ true → x ≡ nan
-differs x e = differs_from_itself x (subst T (sym e) tt)
+pub nan_only : (x : Float) → is_nan x ≡ true → x ≡ nan
+unfolding is_nan
+nan_only nan e = refl
+nan_only (inf s) e = absurd (true≢false (sym e))
+nan_only (fin s m d) e = absurd (true≢false (sym e))
 
-number : (x : Float) → ne x x ≡ false → is_nan (abs x) ≡ false
-unfolding ne eq abs is_nan
+number : (x : Float) → is_nan x ≡ false → is_nan (abs x) ≡ false
+unfolding abs is_nan
 number nan e = e
 number (inf s) e = refl
 number (fin s m e) h = refl
@@ -62,7 +63,7 @@ either_way true x y = refl
 either_way false x y = refl
 
 -- with no NaN for q, fmax is one comparison
-pub one_test : (p q : Float) → ne q q ≡ false → cond (lt (abs q) (abs p)) (abs p) (abs q) ≡ fmax (abs p) (abs q)
+pub one_test : (p q : Float) → is_nan q ≡ false → cond (lt (abs q) (abs p)) (abs p) (abs q) ≡ fmax (abs p) (abs q)
 unfolding fmax
 one_test p q h = rw (number q h) (either_way (lt (abs q) (abs p)) (abs p) (abs q))
 

@@ -1,7 +1,7 @@
 // Rotations: rotg's real branch, the adjoint, and a rotation of one pair of numbers.
 ghost use Rattle.std.specs.Prelude.{◌≡◌, false};
 ghost use Rattle.std.specs.Float.{binary64};
-ghost use Rattle.std.specs.Float.Ieee.{ne};
+ghost use Rattle.std.specs.Float.Ieee.{is_nan};
 ghost use Rattle.model.specs.Arith as Arith;
 ghost use Rattle.model.specs.Jacobi as Jacobi;
 ghost use Rattle.linalg.specs.View.{rotation, rotation_with, pair};
@@ -30,50 +30,57 @@ pub struct Pair {
     pub y: f64,
 }
 
-// The larger magnitude. q is no NaN, so one comparison does.
-fn rotg_magnitude(p: f64, q: f64) -> f64
-    requires { ne q q ≡ false }
-    ensures { result ≡ Arith.fmax (Arith.abs p) (Arith.abs q) }
-{
-    let a = abs(p);
-    let b = abs(q);
-    if a > b { a } else { b }
+// Two numbers that a rotation is made of, the second no NaN.
+#[derive(Clone, Copy)]
+struct Numbers {
+    p: f64,
+    q: f64,
+    ghost number: { is_nan q ≡ false },
 }
 
-// The larger magnitude, kept within MIN_POSITIVE and its reciprocal.
-fn rotg_scale(p: f64, q: f64) -> f64
-    requires { ne q q ≡ false }
-    ensures { result ≡ Jacobi.rotg_scale binary64 p q }
-{
-    fmin(
-        fmax(rotg_magnitude(p, q), MIN_POSITIVE),
-        recip(MIN_POSITIVE),
-    )
-}
+impl Numbers {
+    // The larger magnitude. q is no NaN, so one comparison does.
+    fn magnitude(self) -> f64
+        ensures { result ≡ Arith.fmax (Arith.abs self.p) (Arith.abs self.q) }
+    {
+        let a = abs(self.p);
+        let b = abs(self.q);
+        if a > b { a } else { b }
+    }
 
-// The root of p * p + q * q, worked at that scale.
-fn rotg_norm(p: f64, q: f64) -> f64
-    requires { ne q q ≡ false }
-    ensures { result ≡ Jacobi.rotg_norm binary64 p q }
-{
-    let scl = rotg_scale(p, q);
-    scl * sqrt(abs2(p / scl) + abs2(q / scl))
-}
+    // The larger magnitude, kept within MIN_POSITIVE and its reciprocal.
+    fn scale(self) -> f64
+        ensures { result ≡ Jacobi.rotg_scale binary64 self.p self.q }
+    {
+        fmin(fmax(self.magnitude(), MIN_POSITIVE), recip(MIN_POSITIVE))
+    }
 
-// The number that is larger in magnitude, q at a tie.
-fn rotg_larger(p: f64, q: f64) -> f64
-    ensures { result ≡ Jacobi.rotg_larger p q }
-{
-    if abs(p) > abs(q) { p } else { q }
-}
+    // The root of p * p + q * q, worked at that scale.
+    fn norm(self) -> f64
+        ensures { result ≡ Jacobi.rotg_norm binary64 self.p self.q }
+    {
+        let scl = self.scale();
+        scl * sqrt(abs2(self.p / scl) + abs2(self.q / scl))
+    }
 
-// That root with the sign of the larger number.
-fn rotg_signed(p: f64, q: f64) -> f64
-    requires { ne q q ≡ false }
-    ensures { result ≡ Jacobi.rotg_signed binary64 p q }
-{
-    let r = rotg_norm(p, q);
-    if rotg_larger(p, q) > 0.0 { r } else { -r }
+    // The number that is larger in magnitude, q at a tie.
+    fn larger(self) -> f64
+        ensures { result ≡ Jacobi.rotg_larger self.p self.q }
+    {
+        if abs(self.p) > abs(self.q) {
+            self.p
+        } else {
+            self.q
+        }
+    }
+
+    // That root with the sign of the larger number.
+    fn signed(self) -> f64
+        ensures { result ≡ Jacobi.rotg_signed binary64 self.p self.q }
+    {
+        let r = self.norm();
+        if self.larger() > 0.0 { r } else { -r }
+    }
 }
 
 // The rotation that makes (r, 0) of (p, q).
@@ -88,12 +95,12 @@ pub fn rotg(p: f64, q: f64) -> RotationWith
         let rot = JacobiRotation { c: 0.0, s: -1.0 };
         return RotationWith { rot, r: q };
     }
-    if q != q {
-        let nan = 0.0 / 0.0;
+    if q.is_nan() {
+        let nan = f64::NAN;
         let rot = JacobiRotation { c: nan, s: nan };
         return RotationWith { rot, r: nan };
     }
-    let r = rotg_signed(p, q);
+    let r = Numbers { p, q }.signed();
     let rot = JacobiRotation {
         c: p / r,
         s: -q / r,

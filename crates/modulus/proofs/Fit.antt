@@ -18,14 +18,14 @@ module _ {x y d high low rest : ℕ} (lo : 2 ^ 52 ≤ x) (hi : x < 2 ^ 53) (few 
   square-y : (b : ℕ) → b < 2 ^ 53 → b * 2 * (b * 2) ≤ 2 ^ 108 - 1
   square-y b h = let a : b * 2 ≤ 2 ^ 54 - 2 = omega arith in let z : b * 2 * (b * 2) ≤ (2 ^ 54 - 2) * (2 ^ 54 - 2) = mul-le-mul a a in omega (arith, z)
 
-  pub sum_fits : (2 ^ 52 ≤ high) × (high < 2 ^ 55) × (low < 2 ^ 54) × (rest < 2 ^ 54)
+  pub sum_fits : (2 ^ 52 ≤ high) × (high < 2 ^ 55) × (rest < 2 ^ 54)
   sum_fits =
       let w = 2 ^ d * 2 ^ d in
       let q = div-le_self (y * 2 * (y * 2)) w in
       let m = mod-lt (y * 2 * (y * 2)) (mul-pos (pow_pos d) (pow_pos d)) in
       let e : d * 2 ≤ 52 = omega arith in
       let p : w ≤ 2 ^ 52 = rw (← twice d) (pow_mono e) in
-      (omega (arith, s.is, s.short, square-x), omega (arith, s.is, q, square-y x hi, square-y y few), s.short, omega (arith, s.left, m, p))
+      (omega (arith, s.is, s.short, square-x), omega (arith, s.is, q, square-y x hi, square-y y few), omega (arith, s.left, m, p))
 
 -- a cut to the limbs is one to what they are brought to
 pub fit_cut : {high low rest h l r power : ℕ} (n i : ℕ) → Cut n i (wide high low) rest → Fitted high low rest h l r power → Cut n (i + power) (wide h l) r

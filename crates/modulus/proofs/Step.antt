@@ -11,10 +11,14 @@ use Rattle.laws.specs.Cut.{NearestHalf}
 use Rattle.laws.proofs.WholeRoot.{root_is, le_root}
 use Rattle.laws.proofs.HalfRoot.{one_less}
 use Rattle.digits.proofs.Short.{short}
+use Rattle.modulus.specs.declared.squares.Long.{Long}
 use Rattle.modulus.specs.Modulus.{wide, Square}
 
 -- R is the root of the high limb with 54 zeros after it, k0 half of it, rounded, and k is k0 without its last s digits
-module _ {high low s R : ℕ} (asked : (2 ^ 52 ≤ high) × (high < 2 ^ 54) × (low < 2 ^ 54) × (s < 53)) (is : R ≡ root (high * 2 ^ 54)) where
+module _ (n : Long) {s R : ℕ} (few : s < 53) (is : R ≡ root (n.whole.high * 2 ^ 54)) where
+  abbrev high : ℕ
+  high = n.whole.high
+
   abbrev k0 : ℕ
   k0 = (R + 1) / 2
 
@@ -25,7 +29,7 @@ module _ {high low s R : ℕ} (asked : (2 ^ 52 ≤ high) × (high < 2 ^ 54) × (
   k = k0 / w
 
   abbrev F : ℕ
-  F = wide high low
+  F = wide high n.whole.low
 
   r-low : R * R ≤ high * 2 ^ 54
   r-low = rw is (root_is (high * 2 ^ 54)).0
@@ -34,10 +38,10 @@ module _ {high low s R : ℕ} (asked : (2 ^ 52 ≤ high) × (high < 2 ^ 54) × (
   r-high = rw is (root_is (high * 2 ^ 54)).1
 
   long : 2 ^ 53 ≤ R
-  long = rw is (le_root (high * 2 ^ 54) (root (high * 2 ^ 54)) (root_is (high * 2 ^ 54)) (2 ^ 53) (omega (arith, asked.0)))
+  long = rw is (le_root (high * 2 ^ 54) (root (high * 2 ^ 54)) (root_is (high * 2 ^ 54)) (2 ^ 53) (omega (arith, n.least)))
 
   w_most : w ≤ 2 ^ 52
-  w_most = let h : s ≤ 52 = omega (arith, asked.3) in pow_mono h
+  w_most = let h : s ≤ 52 = omega (arith, few) in pow_mono h
 
   below : k * w ≤ k0
   below = div-mul-le_self k0 w
@@ -63,7 +67,7 @@ module _ {high low s R : ℕ} (asked : (2 ^ 52 ≤ high) × (high < 2 ^ 54) × (
   under_most = omega (arith, beside, below, pow_pos s)
 
   most : (k * 2 + 1) * w < 2 ^ 55
-  most = omega (arith, below, w_most, short high R asked.1 is)
+  most = omega (arith, below, w_most, short high R n.most is)
 
   -- so it stays what it is when it is moved up
   plain : (k * 2 + 1) * w % 2 ^ 64 ≡ (k * 2 + 1) * w
@@ -92,10 +96,13 @@ module _ {high low s R : ℕ} (asked : (2 ^ 52 ≤ high) × (high < 2 ^ 54) × (
   past =
       let g : R + 3 ≤ (2 * (k + 1) + 1) * w = omega (arith, above, pow_pos s) in
       let z = mul-le-mul g g in
-      omega (arith, z, r-high, long, asked.2)
+      omega (arith, z, r-high, long, n.whole.short)
 
   -- the square of the number between, in two limbs
-  module _ {th tl : ℕ} (q : Square ((k * 2 + 1) * w % 2 ^ 64) th tl) (rest : ℕ) where
+  module _ {th tl : ℕ} (q : Square ((k * 2 + 1) * w % 2 ^ 64) th tl) where
+    abbrev rest : ℕ
+    rest = n.rest
+
     middle : wide th tl ≡ square ((2 * k + 1) * w)
     middle = let m : k * 2 + 1 ≡ 2 * k + 1 = omega arith in q.is ∙ ap square (plain ∙ ap (λ (x : ℕ). x * w) m)
 

@@ -6,26 +6,18 @@ ghost use Rattle.model.specs.Arith as Arith;
 ghost use Rattle.laws.specs.HalfDigits.{HalfDigits};
 ghost use Rattle.modulus.specs.Modulus.{four_sums};
 
-use crate::half::{nearest_half, stepped};
-use crate::squares::{fitted, sum_of_squares};
-use digits::number::{Scaled, shift_of, significand};
-
-// The weight of the exponent's field.
-const HIDDEN: u64 = 0x10_0000_0000_0000;
-
-// The pattern of plus infinity.
-const INFINITE: u64 = 0x7ff0_0000_0000_0000;
+use crate::squares::{Normal, sum_of_squares};
+use digits::number::{HIDDEN, INFINITE, Positive, Scaled, shift_of};
 
 // The digits of the modulus of x * 2^d and y, x with all 53 digits: d + power zeros follow them.
 fn large(x: u64, y: u64, d: u64) -> Scaled
     requires { (2 ^ 52 ≤ x) × (x < 2 ^ 53) × (y < 2 ^ 53) × (d < 27) }
     ensures { ((k : ℕ) → HalfDigits binary64 (four_sums x y k d) (k + d + result.power) result.digits) × (result.power ≤ 1) }
 {
-    let n = sum_of_squares(x * 2, y * 2, d);
-    let m = fitted(n.high, n.low, n.rest);
+    let Normal { long, power } = sum_of_squares(x * 2, y * 2, d).fitted();
     Scaled {
-        digits: nearest_half(m.high, m.low, m.rest),
-        power: m.power,
+        digits: long.nearest_half(),
+        power,
     }
 }
 
@@ -35,10 +27,8 @@ fn small(x: u64, y: u64) -> u64
     ensures { HalfDigits binary64 (four_sums x y 0 0) 0 result }
 {
     let s = shift_of(x);
-    let n = sum_of_squares((x << s) * 2, (y << s) * 2, 0);
-    let m = fitted(n.high, n.low, n.rest);
-    let power = m.power;
-    stepped(m.high, m.low, m.rest, s - power as u32)
+    let Normal { long, power } = sum_of_squares((x << s) * 2, (y << s) * 2, 0).fitted();
+    long.stepped(s - power as u32)
 }
 
 // The pattern of the modulus of the numbers of patterns a and b, the larger and the smaller: plus
@@ -51,12 +41,11 @@ pub fn modulus_bits(a: u64, b: u64) -> u64
     if b == 0 {
         return a;
     }
-    let p = significand(a);
-    let x = p.digits;
-    let power = p.power;
-    let q = significand(b);
-    let y = q.digits;
-    let less = q.power;
+    let Scaled { digits: x, power } = Positive { bits: a }.significand();
+    let Scaled {
+        digits: y,
+        power: less,
+    } = Positive { bits: b }.significand();
     let d = power - less;
     if 27 <= d {
         return a;
@@ -64,9 +53,9 @@ pub fn modulus_bits(a: u64, b: u64) -> u64
     if x < HIDDEN {
         return small(x, y);
     }
-    let c = large(x, y, d);
-    let digits = c.digits;
-    let more = c.power;
-    let r = (power + more) * HIDDEN + digits;
-    if r < INFINITE { r } else { INFINITE }
+    let Scaled {
+        digits,
+        power: more,
+    } = large(x, y, d);
+    INFINITE.min((power + more) * HIDDEN + digits)
 }

@@ -3,15 +3,16 @@ ghost use Rattle.std.specs.Prelude.{◌≡◌, ◌/◌, ◌%◌, ◌<◌, ◌≤
 ghost use Rattle.modulus.specs.Modulus.{Square, Sum, Fitted};
 
 // A whole number in two limbs.
-#[derive(Clone, Copy)]
+#[derive(Clone, Copy, PartialEq, Eq, PartialOrd, Ord)]
 pub struct Wide {
     pub high: u64,
     pub low: u64,
+    pub ghost short: { low < 2 ^ 54 },
 }
 
 // A number cut at 2^s.
 #[derive(Clone, Copy)]
-pub struct Parted {
+struct Parted {
     pub above: u64,
     pub below: u64,
 }
@@ -19,17 +20,23 @@ pub struct Parted {
 // The whole part of a sum of squares, and what is left of it.
 #[derive(Clone, Copy)]
 pub struct WithRest {
-    pub high: u64,
-    pub low: u64,
+    pub whole: Wide,
     pub rest: u64,
 }
 
-// The same, cut by `power` pairs of digits.
+// A number of 107 or 108 digits, and a rest that is 0 exactly where nothing is left below.
+#[derive(Clone, Copy)]
+pub struct Long {
+    pub whole: Wide,
+    pub rest: u64,
+    pub ghost least: { 2 ^ 52 ≤ whole.high },
+    pub ghost most: { whole.high < 2 ^ 54 },
+}
+
+// A number cut to that by `power` pairs of digits.
 #[derive(Clone, Copy)]
 pub struct Normal {
-    pub high: u64,
-    pub low: u64,
-    pub rest: u64,
+    pub long: Long,
     pub power: u64,
 }
 
@@ -55,7 +62,7 @@ fn part(x: u64, s: u32) -> Parted
 {
     let above = x >> s;
     Parted {
-        above: above,
+        above,
         below: x - (above << s),
     }
 }
@@ -63,47 +70,53 @@ fn part(x: u64, s: u32) -> Parted
 // x * x + y * y / 4^d, and what the division leaves.
 pub fn sum_of_squares(x: u64, y: u64, d: u64) -> WithRest
     requires { (x < 2 ^ 54) × (y < 2 ^ 54) × (d < 27) }
-    ensures { Sum x y d result.high result.low result.rest }
+    ensures { Sum x y d result.whole.high result.whole.low result.rest }
 {
     let a = square(x);
-    let a_high = a.high;
-    let a_low = a.low;
     let b = square(y);
-    let b_high = b.high;
-    let b_low = b.low;
     let s = d as u32 * 2;
-    let p = part(b_high, s);
-    let high = p.above;
-    let over = p.below;
-    let q = part(b_low, s);
-    let low = q.above;
-    let rest = q.below;
-    let sum = a_low + low + (over << (54 - s));
+    let Parted {
+        above: high,
+        below: over,
+    } = part(b.high, s);
+    let Parted {
+        above: low,
+        below: rest,
+    } = part(b.low, s);
+    let sum = a.low + low + (over << (54 - s));
     WithRest {
-        high: a_high + high + sum / 0x40_0000_0000_0000,
-        low: sum % 0x40_0000_0000_0000,
-        rest: rest,
+        whole: Wide {
+            high: a.high + high + sum / 0x40_0000_0000_0000,
+            low: sum % 0x40_0000_0000_0000,
+        },
+        rest,
     }
 }
 
-// At most 108 digits of a sum of two squares: one pair fewer, where there are more.
-pub fn fitted(high: u64, low: u64, rest: u64) -> Normal
-    requires { (2 ^ 52 ≤ high) × (high < 2 ^ 55) × (low < 2 ^ 54) × (rest < 2 ^ 54) }
-    ensures { Fitted high low rest result.high result.low result.rest result.power }
-{
-    if high < 0x40_0000_0000_0000 {
-        Normal {
-            high: high,
-            low: low,
-            rest: rest,
-            power: 0,
-        }
-    } else {
-        Normal {
-            high: high / 4,
-            low: high % 4 * 0x10_0000_0000_0000 + low / 4,
-            rest: rest + low % 4,
-            power: 1,
+impl WithRest {
+    // At most 108 digits of a sum of two squares: one pair fewer, where there are more.
+    pub fn fitted(self) -> Normal
+        requires { (2 ^ 52 ≤ self.whole.high) × (self.whole.high < 2 ^ 55) × (self.rest < 2 ^ 54) }
+        ensures { Fitted self.whole.high self.whole.low self.rest result.long.whole.high result.long.whole.low result.long.rest result.power }
+    {
+        let WithRest { whole, rest } = self;
+        let Wide { high, low } = whole;
+        if high < 0x40_0000_0000_0000 {
+            Normal {
+                long: Long { whole, rest },
+                power: 0,
+            }
+        } else {
+            Normal {
+                long: Long {
+                    whole: Wide {
+                        high: high / 4,
+                        low: high % 4 * 0x10_0000_0000_0000 + low / 4,
+                    },
+                    rest: rest + low % 4,
+                },
+                power: 1,
+            }
         }
     }
 }

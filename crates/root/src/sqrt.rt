@@ -7,50 +7,41 @@ ghost use Rattle.std.specs.Float.Ieee.{of_bits, nan_bits};
 ghost use Rattle.model.specs.Root as Root;
 ghost use Rattle.root.specs.Sqrt.{Parts, Even};
 
-use digits::number::{Scaled, shift_of, significand};
-use digits::whole::nearest_root;
-
-// The weight of the exponent's field.
-const HIDDEN: u64 = 0x10_0000_0000_0000;
-
-// The pattern of plus infinity: those of the finite numbers above zero are below it.
-const INFINITE: u64 = 0x7ff0_0000_0000_0000;
+use digits::number::{HIDDEN, INFINITE, Positive, Scaled, shift_of};
+use digits::whole::Radicand;
 
 // The number of pattern b with all 53 digits, its power counted in squares of the smallest number: what
 // moves up, and how much the power is less, the leading zeros say.
-fn split(b: u64) -> Scaled
-    requires { (0 < b) × (b < 0x7ff0_0000_0000_0000) }
-    ensures { Parts b result.digits result.power }
+fn split(b: Positive) -> Scaled
+    ensures { Parts b.bits result.digits result.power }
 {
-    let n = significand(b);
-    let t = n.digits;
-    let power = n.power;
-    let s = shift_of(t);
+    let Scaled { digits, power } = b.significand();
+    let s = shift_of(digits);
     Scaled {
-        digits: t << s,
-        power: power + 1074 - s as u64,
+        digits: digits << s,
+        power: power + 1074 - u64::from(s),
     }
 }
 
 // The digits of the same number with an even power.
-fn even_power(digits: u64, power: u64) -> u64
-    requires { (2 ^ 52 ≤ digits) × (digits < 2 ^ 53) }
-    ensures { Even digits power result }
+fn even_power(n: Scaled) -> Radicand
+    requires { (2 ^ 52 ≤ n.digits) × (n.digits < 2 ^ 53) }
+    ensures { Even n.digits n.power result.digits }
 {
-    if power % 2 == 0 { digits } else { digits * 2 }
+    let digits = if n.power % 2 == 0 {
+        n.digits
+    } else {
+        n.digits * 2
+    };
+    Radicand { digits }
 }
 
 // The pattern of the root of the finite number of pattern b.
-fn root_bits(b: u64) -> u64
-    requires { (0 < b) × (b < 0x7ff0_0000_0000_0000) }
-    ensures { (of_bits binary64 result ≡ Root.sqrt binary64 (of_bits binary64 b)) × T (not (nan_bits binary64 result)) }
+fn root_bits(b: Positive) -> u64
+    ensures { (of_bits binary64 result ≡ Root.sqrt binary64 (of_bits binary64 b.bits)) × T (not (nan_bits binary64 result)) }
 {
-    let s = split(b);
-    let digits = s.digits;
-    let power = s.power;
-    let d = even_power(digits, power);
-    let k = nearest_root(d);
-    (power / 2 - 26) * HIDDEN + k
+    let n = split(b);
+    (n.power / 2 - 26) * HIDDEN + even_power(n).nearest_root()
 }
 
 // The square root of x: NaN for a NaN or a number below zero, x itself for both zeros and plus
@@ -59,9 +50,9 @@ pub fn sqrt(x: f64) -> f64
     ensures { result ≡ Root.sqrt binary64 x }
 {
     if x > 0.0 {
-        let b = f64::to_bits(x);
-        if b < INFINITE {
-            return f64::from_bits(root_bits(b));
+        let bits = x.to_bits();
+        if bits < INFINITE {
+            return f64::from_bits(root_bits(Positive { bits }));
         }
         return x;
     }

@@ -3,18 +3,17 @@ use mathlib.Core.Path.{◌≡◌, ◌∙◌}
 use mathlib.Core.Bool.{◌||◌}
 use lib.Ieee.{lt, is_nan}
 use Rattle.model.specs.Arith.{fmax}
-use Rattle.root.proofs.Compare.{differs_nan}
 use Rattle.arith.proofs.real.fmax.Goals as goal
 use Rattle.arith.proofs.real.fmax.Goals.{then-p-q, else-p-q}
 
-pub returns-then-q : goal.returns-then-q
+pub returns-then-is_nan : goal.returns-then-is_nan
 unfolding fmax
-returns-then-q c =
-    let flag : c.if-p-q.value ≡ (lt c.args.q c.args.p || is_nan c.args.q) = elim c.if-p-q.branch [ then-p-q w ↦ rw w.if-p-q.true (w.value-is ∙ w.if-p-q.true) | else-p-q w ↦ rw w.if-p-q.false (w.value-is ∙ differs_nan _) ] in
-    rw (← flag, c.if-q.true)
+returns-then-is_nan c =
+    let flag : c.if-p-q.value ≡ (lt c.args.q c.args.p || is_nan c.args.q) = elim c.if-p-q.branch [ then-p-q w ↦ rw w.if-p-q.true (w.value-is ∙ w.if-p-q.true) | else-p-q w ↦ rw w.if-p-q.false (w.value-is ∙ w.is_nan.ensures.value) ] in
+    rw (← flag, c.if-is_nan.true)
 
-pub returns-else-q : goal.returns-else-q
+pub returns-else-is_nan : goal.returns-else-is_nan
 unfolding fmax
-returns-else-q c =
-    let flag : c.if-p-q.value ≡ (lt c.args.q c.args.p || is_nan c.args.q) = elim c.if-p-q.branch [ then-p-q w ↦ rw w.if-p-q.true (w.value-is ∙ w.if-p-q.true) | else-p-q w ↦ rw w.if-p-q.false (w.value-is ∙ differs_nan _) ] in
-    rw (← flag, c.if-q.false)
+returns-else-is_nan c =
+    let flag : c.if-p-q.value ≡ (lt c.args.q c.args.p || is_nan c.args.q) = elim c.if-p-q.branch [ then-p-q w ↦ rw w.if-p-q.true (w.value-is ∙ w.if-p-q.true) | else-p-q w ↦ rw w.if-p-q.false (w.value-is ∙ w.is_nan.ensures.value) ] in
+    rw (← flag, c.if-is_nan.false)

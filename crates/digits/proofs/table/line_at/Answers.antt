@@ -1,19 +1,11 @@
--- `digits::table::line_at` meets its contract: each line by itself, and no i is left. Assumes nothing.
-use mathlib.Core.Path.{◌≡◌}
-use Prim.Native.Nat.{ℕ, zero, suc, ◌+◌, ◌≤◌}
-use native.Mathlib.Omega.{arith}
+-- `digits::table::line_at` meets its contract: each entry passes the test. Assumes nothing.
+use Rattle.std.proofs.Common.{◌≡◌, ◌+◌, ◌-◌, arith}
+use Rattle.digits.specs.declared.table.TheConstants.{LINES}
+use Rattle.digits.proofs.Lines.{each}
 use Rattle.digits.proofs.table.line_at.Goals as goal
 
--- i is none of the k numbers from 32 on
-Other : ℕ → ℕ → Type 0
-Other i zero = Unit
-Other i (suc k) = Other i k × (i ≡ 32 + k → ⊥)
-
-past : (i k : ℕ) → 32 ≤ i → Other i k → 32 + k ≤ i
-unfolding Other
-past i zero h n = h
-past i (suc k) h n = let m : i ≡ 32 + k → ⊥ = n.1 in omega (arith, past i k h n.0, m)
-
-pub returns-in_default : goal.returns-in_default
-unfolding Other
-returns-in_default c = absurd (omega (arith, past c.args.i 96 c.requires.0 c.in_default.in_default-own.rest, c.requires.1))
+pub returns : goal.returns
+returns c =
+    let i = c.args.i in
+    let e : 32 + (i - 32) ≡ i = omega arith in
+    rw e at (each 32 LINES tt (i - 32) (omega arith))

@@ -22,8 +22,8 @@ digits : (x y : ℕ) {d high low rest h l r power c : ℕ} → Sum (x * 2) (y * 
 digits x y {d} {high} {low} {rest} {h} {l} {r} {power} {c} s f q k =
     cut_digits binary64 (four_sums x y k d) (k + d + power) (wide h l) r c (fit_cut (four_sums x y k d) (k + d) (sum_cut x y k s) f) q (omega (arith, f.least)) (omega (arith, f.most, f.short))
 
-pub fitted-m-requires : goal.fitted-m-requires
-fitted-m-requires c = let p = c.requires in sum_fits p.0 p.1 p.2 p.3 c.sum_of_squares-n.ensures
+pub fitted-power-requires : goal.fitted-power-requires
+fitted-power-requires c = let p = c.requires in sum_fits p.0 p.1 p.2 p.3 c.sum_of_squares.ensures
 
 pub returns : goal.returns
-returns c = (digits c.args.x c.args.y c.sum_of_squares-n.ensures c.fitted-m.ensures c.nearest_half.ensures, c.fitted-m.ensures.once)
+returns c = (digits c.args.x c.args.y c.sum_of_squares.ensures c.fitted-power.ensures c.nearest_half.ensures, c.fitted-power.ensures.once)

@@ -74,20 +74,20 @@ overflow_mul-x c = omega (arith, x-high c.requires c.shift_of-s.ensures)
 pub overflow_mul-y : goal.overflow_mul-y
 overflow_mul-y c = omega (arith, y-high c.requires c.shift_of-s.ensures)
 
-pub sum_of_squares-n-requires : goal.sum_of_squares-n-requires
-sum_of_squares-n-requires c = (omega (arith, x-high c.requires c.shift_of-s.ensures), omega (arith, y-high c.requires c.shift_of-s.ensures), omega arith)
+pub sum_of_squares-requires : goal.sum_of_squares-requires
+sum_of_squares-requires c = (omega (arith, x-high c.requires c.shift_of-s.ensures), omega (arith, y-high c.requires c.shift_of-s.ensures), omega arith)
 
-pub fitted-m-requires : goal.fitted-m-requires
-fitted-m-requires c =
+pub fitted-power-requires : goal.fitted-power-requires
+fitted-power-requires c =
     let p = c.requires in
     let m = c.shift_of-s.ensures in
-    sum_fits (x-low p m) (x-high p m) (y-high p m) (omega arith) c.sum_of_squares-n.ensures
+    sum_fits (x-low p m) (x-high p m) (y-high p m) (omega arith) c.sum_of_squares.ensures
 
 pub overflow_sub-s : goal.overflow_sub-s
-overflow_sub-s c = omega (arith, moves c.requires c.shift_of-s.ensures, c.fitted-m.ensures.once)
+overflow_sub-s c = omega (arith, moves c.requires c.shift_of-s.ensures, c.fitted-power.ensures.once)
 
 pub stepped-requires : goal.stepped-requires
-stepped-requires c = (c.fitted-m.ensures.least, c.fitted-m.ensures.most, c.fitted-m.ensures.short, omega (arith, c.shift_of-s.ensures.most))
+stepped-requires c = omega (arith, c.shift_of-s.ensures.most)
 
 pub returns : goal.returns
-returns c = nearest c.requires c.shift_of-s.ensures c.sum_of_squares-n.ensures c.fitted-m.ensures c.stepped.ensures
+returns c = nearest c.requires c.shift_of-s.ensures c.sum_of_squares.ensures c.fitted-power.ensures c.stepped.ensures

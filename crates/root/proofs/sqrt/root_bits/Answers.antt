@@ -11,13 +11,13 @@ bound : {d k : ℕ} → d < 2 ^ 54 → k ≡ (root (d * 2 ^ 54) + 1) / 2 → k �
 bound {d} h e = omega (arith, short d (root (d * 2 ^ 54)) h refl)
 
 pub overflow_add-result : goal.overflow_add-result
-overflow_add-result c = omega (arith, bound c.even_power-d.ensures.high c.nearest_root-k.ensures)
+overflow_add-result c =
+    omega (arith, bound c.even_power.ensures.high c.nearest_root.ensures)
 
 pub returns : goal.returns
 returns c =
-    let k = c.nearest_root-k.ensures in
-    let e = c.even_power-d.ensures in
-    let s = c.split-s.ensures in
+    let k = c.nearest_root.ensures in
+    let e = c.even_power.ensures in
+    let s = c.split-n.ensures in
     let b = c.args.b in
-    let pre = c.requires in
-    (rw k (is-root b _ _ _ _ pre.0 pre.1 s e refl), rw k (no_nan b _ _ _ _ pre.0 pre.1 s e refl))
+    (rw k (is-root b.bits _ _ _ _ b.some b.finite s e refl), rw k (no_nan b.bits _ _ _ _ b.some b.finite s e refl))

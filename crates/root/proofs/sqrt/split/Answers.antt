@@ -23,4 +23,4 @@ moved b t power s n r =
     }
 
 pub returns : goal.returns
-returns c = moved _ _ _ _ c.significand-n.ensures c.shift_of-s.ensures
+returns c = rw c.from.ensures (moved _ _ _ _ c.significand-digits.ensures c.shift_of-s.ensures)
