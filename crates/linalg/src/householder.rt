@@ -3,15 +3,15 @@ ghost use Rattle.std.specs.Prelude.{◌≡◌, map, Float};
 ghost use Rattle.std.specs.Float.{binary64};
 ghost use Rattle.std.specs.Float.Ieee.{mul};
 ghost use Rattle.model.specs.Householder as Householder;
-ghost use Rattle.linalg.specs.View.{reflection};
+ghost use Rattle.linalg.specs.View.{reflection, reflected};
 
 use arith::norm::{hypot, norm_l2};
 use arith::real::{MIN_POSITIVE, abs, abs2, recip};
+use refusal::Refusal;
 
-// The answer of a reflection: 0 and four results, or 11 and zeros.
+// A reflection's four results. What it makes of the tail stands in the tail.
 #[derive(Clone, Copy)]
 pub struct Reflection {
-    pub answer: usize,
     pub head: f64,
     pub tau: f64,
     pub head_with_beta_inv: f64,
@@ -41,10 +41,8 @@ fn sign_of(head: f64) -> f64
 fn scale_tail(tail: &mut [f64], k: f64)
     ensures { tail.new ≡ map (λ (x : Float). mul binary64 x k) tail.old }
 {
-    let mut i = 0;
-    while i < tail.len() {
-        tail[i] = tail[i] * k;
-        i += 1;
+    for x in tail.iter_mut() {
+        *x *= k;
     }
 }
 
@@ -57,7 +55,6 @@ fn reflect_tail(head: f64, tail_norm: f64, tail: &mut [f64]) -> Reflection
     let head_with_beta_inv = recip(head + signed_norm);
     scale_tail(&mut *tail, head_with_beta_inv);
     Reflection {
-        answer: 0,
         head: -signed_norm,
         tau: 0.5 * (1.0 + abs2(tail_norm * abs(head_with_beta_inv))),
         head_with_beta_inv,
@@ -65,15 +62,15 @@ fn reflect_tail(head: f64, tail_norm: f64, tail: &mut [f64]) -> Reflection
     }
 }
 
-// The reflection of a tail of any length.
-fn make_householder(head: f64, tail: &mut [f64]) -> Reflection
+// The reflection that takes the head and a tail of any length to (head, 0 ..): the new head, tau
+// and the rest, and the tail in place.
+pub fn make_householder(head: f64, tail: &mut [f64]) -> Reflection
     ensures { reflection result tail.new ≡ Householder.make_householder binary64 head tail.old }
 {
     let head = flushed(head);
-    let tail_norm = norm_l2(&*tail);
+    let tail_norm = norm_l2(tail);
     if tail_norm < MIN_POSITIVE {
         return Reflection {
-            answer: 0,
             head,
             tau: 1.0 / 0.0,
             head_with_beta_inv: 1.0 / 0.0,
@@ -84,28 +81,20 @@ fn make_householder(head: f64, tail: &mut [f64]) -> Reflection
 }
 
 // Whether a tail has 1 to 64 numbers.
+#[tactic(auto, unfolding(model::specs::Householder::tail_fits))]
 fn tail_fits(len: usize) -> bool
     ensures { result ≡ Householder.tail_fits len }
 {
-    if len < 1 {
-        return false;
-    }
-    len <= 64
+    1 <= len && len <= 64
 }
 
-// The reflection that takes the head and the tail to (head, 0 ..): the new head, tau and the
-// rest in the answer, and the tail in place. A tail that has not 1 to 64 numbers is turned away.
-pub fn make_householder_in_place(head: f64, tail: &mut [f64]) -> Reflection
-    ensures { reflection result tail.new ≡ Householder.make_householder_in_place binary64 head tail.old }
+// The same of a tail that has 1 to 64 numbers. Any other is turned away, and stays.
+pub fn make_householder_in_place(head: f64, tail: &mut [f64]) -> Result<Reflection, Refusal>
+    ensures { reflected result tail.new ≡ Householder.make_householder_in_place binary64 head tail.old }
 {
     if tail_fits(tail.len()) {
-        return make_householder(head, tail);
-    }
-    Reflection {
-        answer: 11,
-        head: 0.0,
-        tau: 0.0,
-        head_with_beta_inv: 0.0,
-        norm: 0.0,
+        Ok(make_householder(head, tail))
+    } else {
+        Err(Refusal::TailLength)
     }
 }

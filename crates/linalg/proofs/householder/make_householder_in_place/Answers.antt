@@ -5,8 +5,8 @@ use Rattle.linalg.proofs.householder.make_householder_in_place.Goals as goal
 pub returns-then-tail_fits : goal.returns-then-tail_fits
 unfolding make_householder_in_place
 returns-then-tail_fits c =
-    rw (← c.tail_fits.ensures, c.if-tail_fits.true, c.make_householder.ensures)
+    rw (← c.tail_fits.ensures, c.if-tail_fits.true) c.make_householder.ensures
 
-pub returns : goal.returns
+pub returns-else-tail_fits : goal.returns-else-tail_fits
 unfolding tail_turned_away make_householder_in_place
-returns c = rw (← c.tail_fits.ensures, c.if-tail_fits.false)
+returns-else-tail_fits c = rw (← c.tail_fits.ensures, c.if-tail_fits.false)
