@@ -11,8 +11,9 @@ abbrev pub eigenvalues : Eigenvalues → Schur22.Eigenvalues
 eigenvalues (Real a d) = Schur22.real a d
 eigenvalues (Complex a d m) = Schur22.complex a d m
 
+-- document 01's number of an enum's values is 0 for each of its cases
 abbrev pub values : Values → Schur22.Values
-values v = record { answer = v.answer; re1 = v.re1; im1 = v.im1; re2 = v.re2; im2 = v.im2 }
+values v = record { answer = 0; re1 = v.re1; im1 = v.im1; re2 = v.re2; im2 = v.im2 }
 
 abbrev pub block : Block → Schur22.Block
 block x = record { a = x.a; b = x.b; c = x.c; d = x.d; cs = x.cs; sn = x.sn }

@@ -14,10 +14,9 @@ pub enum Eigenvalues {
     Complex(f64, f64, f64),
 }
 
-// The number and the values of such a pair: 0, and the real and the imaginary part of each.
+// The real and the imaginary part of each value of a pair.
 #[derive(Clone, Copy)]
 pub struct Values {
-    pub answer: usize,
     pub re1: f64,
     pub im1: f64,
     pub re2: f64,
@@ -42,6 +41,15 @@ pub struct Standardised {
     pub eigenvalues: Eigenvalues,
 }
 
+// The four numbers as they came, in rows (a, b) and (c, d).
+#[derive(Clone, Copy)]
+struct Entries {
+    a: f64,
+    b: f64,
+    c: f64,
+    d: f64,
+}
+
 // What the rescaling brings within its bounds.
 #[derive(Clone, Copy)]
 struct Scaled {
@@ -54,29 +62,30 @@ const SAFMN2: f64 = 1.0010415475915505e-146;
 
 const SAFMX2: f64 = 9.989595361011175e145;
 
-// The number and the values of a pair.
-pub fn values_of(e: Eigenvalues) -> Values
-    ensures { values result ≡ Schur22.values_of binary64 (eigenvalues e) }
-{
-    match e {
-        Eigenvalues::Real(a, d) => Values {
-            answer: 0,
-            re1: a,
-            im1: 0.0,
-            re2: d,
-            im2: 0.0,
-        },
-        Eigenvalues::Complex(a, d, m) => Values {
-            answer: 0,
-            re1: a,
-            im1: m,
-            re2: d,
-            im2: -m,
-        },
+impl From<Eigenvalues> for Values {
+    ghost from_gives = { λ e v. values v ≡ Schur22.values_of binary64 (eigenvalues e) };
+
+    #[tactic(auto, unfolding(model::specs::Schur22::values_of))]
+    fn from(e: Eigenvalues) -> Values {
+        match e {
+            Eigenvalues::Real(a, d) => Values {
+                re1: a,
+                im1: 0.0,
+                re2: d,
+                im2: 0.0,
+            },
+            Eigenvalues::Complex(a, d, m) => Values {
+                re1: a,
+                im1: m,
+                re2: d,
+                im2: -m,
+            },
+        }
     }
 }
 
 // Whether just one of the two is above zero.
+#[tactic(auto, unfolding(model::specs::Schur22::unlike_signs))]
 fn unlike_signs(b: f64, c: f64) -> bool
     ensures { result ≡ Schur22.unlike_signs binary64 b c }
 {
@@ -84,6 +93,7 @@ fn unlike_signs(b: f64, c: f64) -> bool
 }
 
 // The smaller magnitude, negative where the signs are unlike.
+#[tactic(auto, unfolding(model::specs::Schur22::bcmin_of))]
 fn bcmin_of(b: f64, c: f64) -> f64
     ensures { result ≡ Schur22.bcmin_of binary64 b c }
 {
@@ -92,6 +102,7 @@ fn bcmin_of(b: f64, c: f64) -> f64
 }
 
 // The number that decides: two real numbers where it is at least 4 eps.
+#[tactic(auto, unfolding(model::specs::Schur22::z_of))]
 fn z_of(p: f64, scale: f64, bcmax: f64, bcmin: f64) -> f64
     ensures { result ≡ Schur22.z_of binary64 p scale bcmax bcmin }
 {
@@ -99,6 +110,7 @@ fn z_of(p: f64, scale: f64, bcmax: f64, bcmin: f64) -> f64
 }
 
 // p plus the root of scale times the root of z, taken with p's sign.
+#[tactic(auto, unfolding(model::specs::Schur22::shift_of))]
 fn shift_of(p: f64, scale: f64, z: f64) -> f64
     ensures { result ≡ Schur22.shift_of binary64 p scale z }
 {
@@ -106,75 +118,54 @@ fn shift_of(p: f64, scale: f64, z: f64) -> f64
     if p < 0.0 { p + -t } else { p + t }
 }
 
-// Two real numbers, z now the shift.
-fn apart(b: f64, c: f64, d: f64, z: f64, bcmax: f64, bcmin: f64) -> Block
-    ensures { block result ≡ Schur22.apart binary64 b c d z bcmax bcmin }
-{
-    let tau = sqrt(abs2(c) + abs2(z));
-    Block {
-        a: d + z,
-        b: b - c,
-        c: 0.0,
-        d: d - (bcmax / z) * bcmin,
-        cs: z / tau,
-        sn: c / tau,
-    }
-}
-
-// The larger of the two magnitudes.
-fn scale_of(s: Scaled) -> f64
-    ensures { result ≡ Schur22.scale_of (scaled s) }
-{
-    fmax(abs(s.temp), abs(s.sigma))
-}
-
 // Whether the scale meets the upper bound or the lower.
+#[tactic(auto, using(crate::proofs::Safe::lower, crate::proofs::Safe::upper), unfolding(model::specs::Schur22::bound_met))]
 fn bound_met(scale: f64) -> bool
     ensures { result ≡ Schur22.bound_met binary64 scale }
 {
-    if scale >= SAFMX2 {
-        return true;
-    }
-    scale <= SAFMN2
+    scale >= SAFMX2 || scale <= SAFMN2
 }
 
-// One round: down where the upper bound is met, up where only the lower is.
-fn rescale(scale: f64, s: Scaled) -> Scaled
-    ensures { scaled result ≡ Schur22.rescale binary64 scale (scaled s) }
-{
-    if scale >= SAFMX2 {
-        return Scaled {
-            sigma: s.sigma * SAFMN2,
-            temp: s.temp * SAFMN2,
-        };
+impl Scaled {
+    // The larger of the two magnitudes.
+    #[tactic(auto, unfolding(model::specs::Schur22::scale_of))]
+    fn scale(self) -> f64
+        ensures { result ≡ Schur22.scale_of (scaled self) }
+    {
+        fmax(abs(self.temp), abs(self.sigma))
     }
-    Scaled {
-        sigma: s.sigma * SAFMX2,
-        temp: s.temp * SAFMX2,
-    }
-}
 
-// At most twenty rounds, left as soon as neither bound is met.
-fn rescaled(sigma: f64, temp: f64) -> Scaled
-    ensures { scaled result ≡ Schur22.rescaled binary64 20 (record { sigma = sigma; temp = temp }) }
-{
-    let mut s = Scaled { sigma, temp };
-    let mut left: usize = 20;
-    loop {
-        if left == 0 {
-            break s;
+    // One round: down where the upper bound is met, up where only the lower is.
+    #[tactic(auto, using(crate::proofs::Safe::lower, crate::proofs::Safe::upper), unfolding(model::specs::Schur22::rescale))]
+    fn rescale(self, scale: f64) -> Scaled
+        ensures { scaled result ≡ Schur22.rescale binary64 scale (scaled self) }
+    {
+        let factor = if scale >= SAFMX2 { SAFMN2 } else { SAFMX2 };
+        Scaled {
+            sigma: self.sigma * factor,
+            temp: self.temp * factor,
         }
-        let scale = scale_of(s);
-        if bound_met(scale) {
-            s = rescale(scale, s);
-            left -= 1;
-        } else {
-            break s;
+    }
+
+    // At most twenty rounds, left as soon as neither bound is met.
+    #[tactic(auto, unfolding(model::specs::Schur22::rescaled))]
+    fn rescaled(self) -> Scaled
+        ensures { scaled result ≡ Schur22.rescaled binary64 20 (scaled self) }
+    {
+        let mut s = self;
+        for _ in 0..20u32 {
+            let scale = s.scale();
+            if !bound_met(scale) {
+                break;
+            }
+            s = s.rescale(scale);
         }
+        s
     }
 }
 
 // The cosine that makes the diagonal equal.
+#[tactic(auto, unfolding(model::specs::Schur22::cs_of))]
 fn cs_of(sigma: f64, tau: f64) -> f64
     ensures { result ≡ Schur22.cs_of binary64 sigma tau }
 {
@@ -182,6 +173,7 @@ fn cs_of(sigma: f64, tau: f64) -> f64
 }
 
 // Its sine, negated where sigma is below zero.
+#[tactic(auto, unfolding(model::specs::Schur22::sn_of))]
 fn sn_of(sigma: f64, p: f64, tau: f64, cs: f64) -> f64
     ensures { result ≡ Schur22.sn_of binary64 sigma p tau cs }
 {
@@ -189,156 +181,196 @@ fn sn_of(sigma: f64, p: f64, tau: f64, cs: f64) -> f64
     if sigma < 0.0 { -sn } else { sn }
 }
 
-// The block turned by cs and sn, both diagonal numbers then their mean.
-fn turned(a: f64, b: f64, c: f64, d: f64, cs: f64, sn: f64) -> Block
-    ensures { block result ≡ Schur22.turned binary64 a b c d cs sn }
-{
-    let aa = a * cs + b * sn;
-    let bb = -a * sn + b * cs;
-    let cc = c * cs + d * sn;
-    let dd = -c * sn + d * cs;
-    let temp = mul_pow2((aa * cs + cc * sn) + (-bb * sn + dd * cs), 0.5);
-    Block {
-        a: temp,
-        b: bb * cs + dd * sn,
-        c: -aa * sn + cc * cs,
-        d: temp,
-        cs,
-        sn,
-    }
-}
-
-// Whether neither is zero and their signs are alike.
-fn splits(b: f64, c: f64) -> bool
-    ensures { result ≡ Schur22.splits binary64 b c }
-{
-    if c != 0.0 {
-        if b != 0.0 {
-            return !unlike_signs(b, c);
-        }
-    }
-    false
-}
-
 // The root of |b| times the root of |c|, given, with the sign of c.
+#[tactic(auto, unfolding(model::specs::Schur22::p_of))]
 fn p_of(c: f64, sab: f64, sac: f64) -> f64
     ensures { result ≡ Schur22.p_of binary64 c sab sac }
 {
     if c > 0.0 { sab * sac } else { -sab * sac }
 }
 
-// A block of equal diagonal numbers that splits: c becomes zero.
-fn split(x: Block) -> Block
-    ensures { block result ≡ Schur22.split binary64 (block x) }
+// Whether neither is zero and their signs are alike.
+#[tactic(auto, unfolding(model::specs::Schur22::splits))]
+fn splits(b: f64, c: f64) -> bool
+    ensures { result ≡ Schur22.splits binary64 b c }
 {
-    let sab = sqrt(abs(x.b));
-    let sac = sqrt(abs(x.c));
-    let p = p_of(x.c, sab, sac);
-    let tau = recip(sqrt(abs(x.b + x.c)));
-    let cs1 = sab * tau;
-    let sn1 = sac * tau;
-    Block {
-        a: x.a + p,
-        b: x.b - x.c,
-        c: 0.0,
-        d: x.d - p,
-        cs: x.cs * cs1 - x.sn * sn1,
-        sn: x.cs * sn1 + x.sn * cs1,
-    }
+    c != 0.0 && b != 0.0 && !unlike_signs(b, c)
 }
 
-// The block, split where it splits.
-fn split_if(x: Block) -> Block
-    ensures { block result ≡ Schur22.split_if binary64 (block x) }
-{
-    if splits(x.b, x.c) { split(x) } else { x }
-}
-
-// Complex, or real and close: the diagonal is made equal.
-fn close(a: f64, b: f64, c: f64, d: f64) -> Block
-    ensures { block result ≡ Schur22.close binary64 a b c d }
-{
-    let s = rescaled(b + c, a - d);
-    let p = mul_pow2(s.temp, 0.5);
-    let tau = sqrt(abs2(s.sigma) + abs2(s.temp));
-    let cs = cs_of(s.sigma, tau);
-    let sn = sn_of(s.sigma, p, tau, cs);
-    split_if(turned(a, b, c, d, cs, sn))
-}
-
-// b and c not zero.
-fn full(a: f64, b: f64, c: f64, d: f64) -> Block
-    ensures { block result ≡ Schur22.full binary64 a b c d }
-{
-    let p = (a - d) * 0.5;
-    let bcmax = fmax(abs(b), abs(c));
-    let bcmin = bcmin_of(b, c);
-    let scale = fmax(abs(p), bcmax);
-    let z = z_of(p, scale, bcmax, bcmin);
-    if z >= 4.0 * EPS {
-        return apart(b, c, d, shift_of(p, scale, z), bcmax, bcmin);
-    }
-    close(a, b, c, d)
-}
-
-// Equal diagonal numbers, and beside them unlike signs.
-fn is_standard(a: f64, b: f64, c: f64, d: f64) -> bool
-    ensures { result ≡ Schur22.is_standard binary64 a b c d }
-{
-    if a == d {
-        return unlike_signs(b, c);
-    }
-    false
-}
-
-// The new numbers and the rotation.
-fn standard(a: f64, b: f64, c: f64, d: f64) -> Block
-    ensures { block result ≡ Schur22.standard binary64 a b c d }
-{
-    let same = Block {
-        a,
-        b,
-        c,
-        d,
-        cs: 1.0,
-        sn: 0.0,
-    };
-    if c == 0.0 {
-        return same;
-    }
-    if b == 0.0 {
-        return Block {
-            a: d,
-            b: -c,
+impl Block {
+    // A block of equal diagonal numbers that splits: c becomes zero.
+    #[tactic(auto, unfolding(model::specs::Schur22::split))]
+    fn split(self) -> Block
+        ensures { block result ≡ Schur22.split binary64 (block self) }
+    {
+        let Block { a, b, c, d, cs, sn } = self;
+        let sab = sqrt(abs(b));
+        let sac = sqrt(abs(c));
+        let p = p_of(c, sab, sac);
+        let tau = recip(sqrt(abs(b + c)));
+        let cs1 = sab * tau;
+        let sn1 = sac * tau;
+        Block {
+            a: a + p,
+            b: b - c,
             c: 0.0,
-            d: a,
-            cs: 0.0,
-            sn: 1.0,
+            d: d - p,
+            cs: cs * cs1 - sn * sn1,
+            sn: cs * sn1 + sn * cs1,
+        }
+    }
+
+    // The block, split where it splits.
+    #[tactic(auto, unfolding(model::specs::Schur22::split_if))]
+    fn split_if(self) -> Block
+        ensures { block result ≡ Schur22.split_if binary64 (block self) }
+    {
+        if splits(self.b, self.c) {
+            self.split()
+        } else {
+            self
+        }
+    }
+
+    // Complex when c is still not zero.
+    #[tactic(auto, unfolding(model::specs::Schur22::eigenvalues_of))]
+    fn eigenvalues(self) -> Eigenvalues
+        ensures { eigenvalues result ≡ Schur22.eigenvalues_of binary64 (block self) }
+    {
+        if self.c != 0.0 {
+            Eigenvalues::Complex(self.a, self.d, sqrt(abs(self.b)) * sqrt(abs(self.c)))
+        } else {
+            Eigenvalues::Real(self.a, self.d)
+        }
+    }
+}
+
+impl Entries {
+    // Two real numbers, z now the shift.
+    #[tactic(auto, unfolding(model::specs::Schur22::apart))]
+    fn apart(self, z: f64, bcmax: f64, bcmin: f64) -> Block
+        ensures { block result ≡ Schur22.apart binary64 self.b self.c self.d z bcmax bcmin }
+    {
+        let Entries { b, c, d, .. } = self;
+        let tau = sqrt(abs2(c) + abs2(z));
+        Block {
+            a: d + z,
+            b: b - c,
+            c: 0.0,
+            d: d - (bcmax / z) * bcmin,
+            cs: z / tau,
+            sn: c / tau,
+        }
+    }
+
+    // Turned by cs and sn, both diagonal numbers then their mean.
+    #[tactic(auto, unfolding(model::specs::Schur22::turned))]
+    fn turned(self, cs: f64, sn: f64) -> Block
+        ensures { block result ≡ Schur22.turned binary64 self.a self.b self.c self.d cs sn }
+    {
+        let Entries { a, b, c, d } = self;
+        let aa = a * cs + b * sn;
+        let bb = -a * sn + b * cs;
+        let cc = c * cs + d * sn;
+        let dd = -c * sn + d * cs;
+        let temp = mul_pow2((aa * cs + cc * sn) + (-bb * sn + dd * cs), 0.5);
+        Block {
+            a: temp,
+            b: bb * cs + dd * sn,
+            c: -aa * sn + cc * cs,
+            d: temp,
+            cs,
+            sn,
+        }
+    }
+
+    // Complex, or real and close: the diagonal is made equal.
+    #[tactic(auto, unfolding(model::specs::Schur22::close))]
+    fn close(self) -> Block
+        ensures { block result ≡ Schur22.close binary64 self.a self.b self.c self.d }
+    {
+        let apart = Scaled {
+            sigma: self.b + self.c,
+            temp: self.a - self.d,
         };
+        let Scaled { sigma, temp } = apart.rescaled();
+        let p = mul_pow2(temp, 0.5);
+        let tau = sqrt(abs2(sigma) + abs2(temp));
+        let cs = cs_of(sigma, tau);
+        let sn = sn_of(sigma, p, tau, cs);
+        self.turned(cs, sn).split_if()
     }
-    if is_standard(a, b, c, d) {
-        return same;
+
+    // b and c not zero.
+    #[tactic(auto, unfolding(model::specs::Schur22::full))]
+    fn full(self) -> Block
+        ensures { block result ≡ Schur22.full binary64 self.a self.b self.c self.d }
+    {
+        let Entries { a, b, c, d } = self;
+        let p = (a - d) * 0.5;
+        let bcmax = fmax(abs(b), abs(c));
+        let bcmin = bcmin_of(b, c);
+        let scale = fmax(abs(p), bcmax);
+        let z = z_of(p, scale, bcmax, bcmin);
+        if z >= 4.0 * EPS {
+            self.apart(shift_of(p, scale, z), bcmax, bcmin)
+        } else {
+            self.close()
+        }
     }
-    full(a, b, c, d)
+
+    // Equal diagonal numbers, and beside them unlike signs.
+    #[tactic(auto, unfolding(model::specs::Schur22::is_standard))]
+    fn is_standard(self) -> bool
+        ensures { result ≡ Schur22.is_standard binary64 self.a self.b self.c self.d }
+    {
+        self.a == self.d && unlike_signs(self.b, self.c)
+    }
+
+    // The new numbers and the rotation.
+    #[tactic(auto, unfolding(model::specs::Schur22::standard))]
+    fn standard(self) -> Block
+        ensures { block result ≡ Schur22.standard binary64 self.a self.b self.c self.d }
+    {
+        let Entries { a, b, c, d } = self;
+        let same = Block {
+            a,
+            b,
+            c,
+            d,
+            cs: 1.0,
+            sn: 0.0,
+        };
+        if c == 0.0 {
+            return same;
+        }
+        if b == 0.0 {
+            return Block {
+                a: d,
+                b: -c,
+                c: 0.0,
+                d: a,
+                cs: 0.0,
+                sn: 1.0,
+            };
+        }
+        if self.is_standard() {
+            return same;
+        }
+        self.full()
+    }
 }
 
-// Complex when c is still not zero.
-fn eigenvalues_of(x: Block) -> Eigenvalues
-    ensures { eigenvalues result ≡ Schur22.eigenvalues_of binary64 (block x) }
-{
-    if x.c != 0.0 {
-        return Eigenvalues::Complex(x.a, x.d, sqrt(abs(x.b)) * sqrt(abs(x.c)));
-    }
-    Eigenvalues::Real(x.a, x.d)
-}
-
-// The block of rows (a, b) and (c, d), standardised: the new numbers, the rotation and the pair, whose
-// number and values are those of `values_of`.
+// The block of rows (a, b) and (c, d), standardised: the new numbers, the rotation and the pair, of
+// which `Values` has the parts.
+#[tactic(auto, unfolding(model::specs::Schur22::lahqr_schur22))]
 pub fn lahqr_schur22(a: f64, b: f64, c: f64, d: f64) -> Standardised
     ensures standardised { standardised result ≡ Schur22.lahqr_schur22 binary64 a b c d }
     ensures values { Schur22.values_of binary64 (eigenvalues result.eigenvalues) ≡ Schur22.values_of binary64 (Schur22.lahqr_schur22 binary64 a b c d).eigenvalues }
 {
-    let block = standard(a, b, c, d);
-    let eigenvalues = eigenvalues_of(block);
-    Standardised { block, eigenvalues }
+    let block = Entries { a, b, c, d }.standard();
+    Standardised {
+        block,
+        eigenvalues: block.eigenvalues(),
+    }
 }
