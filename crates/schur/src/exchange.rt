@@ -50,14 +50,7 @@ fn standardise_if(s: Shape, t: &mut [f64], u: &mut [f64], size: usize, j: usize)
 }
 
 // One swap, then the new upper block standardised, then the lower, after a decline too.
-fn exchange_whole(
-    s: Shape,
-    t: &mut [f64],
-    u: &mut [f64],
-    j: usize,
-    n1: usize,
-    n2: usize,
-) -> Counts
+fn exchange_whole(s: Shape, t: &mut [f64], u: &mut [f64], j: usize, n1: usize, n2: usize) -> Counts
     requires { Holds s t.old × Beside s u.old × Rows s.n j n1 n2 }
     ensures { Step s.ld s.n u.old t.new u.new result.swaps result.declined (Exchange.exchange_whole binary64 s.ld s.n j n1 n2 t.old) × (result.swaps ≡ 1) × (result.declined ≤ 1) }
 {
@@ -75,18 +68,10 @@ fn apart(s: Shape, t: &[f64], size: usize, j: usize) -> bool
     size == 2 && s.zero_below(t, j)
 }
 
-// A small exchange still to do: the n1 rows from row `row` on with the n2 below them.
-#[derive(Clone, Copy, Default)]
-pub struct Small {
-    row: usize,
-    n1: usize,
-    n2: usize,
-}
-
 // The exchange of the n1 rows from row j on with the n2 below them, in a loop over the small exchanges
-// still to do, the last pushed first. Two rows that have a zero inside when their turn comes are parted: of
-// the first two the lower goes first, of the second two the upper.
-pub fn exchange(
+// still to do, each by its row, n1 and n2, the last pushed first. Two rows that have a zero inside when
+// their turn comes are parted: of the first two the lower goes first, of the second two the upper.
+pub(crate) fn exchange(
     s: Shape,
     t: &mut [f64],
     u: &mut [f64],
@@ -97,24 +82,16 @@ pub fn exchange(
     requires { Holds s t.old × Beside s u.old × Rows s.n j n1 n2 }
     ensures { Step s.ld s.n u.old t.new u.new result.swaps result.declined (Exchange.exchange binary64 s.ld s.n j n1 n2 t.old) × (result.swaps ≤ 4) × (result.declined ≤ 4) }
 {
-    let mut todo = ArrayVec::<Small, 3>::new();
-    todo.push(Small { row: j, n1, n2 });
+    let mut todo = ArrayVec::<(usize, usize, usize), 3>::new();
+    todo.push((j, n1, n2));
     let mut counts = Counts::default();
-    while let Some(Small { row, n1, n2 }) = todo.pop() {
+    while let Some((row, n1, n2)) = todo.pop() {
         if apart(s, t, n1, row) {
-            todo.push(Small { row, n1: 1, n2 });
-            todo.push(Small {
-                row: row + 1,
-                n1: 1,
-                n2,
-            });
+            todo.push((row, 1, n2));
+            todo.push((row + 1, 1, n2));
         } else if apart(s, t, n2, row + n1) {
-            todo.push(Small {
-                row: row + 1,
-                n1,
-                n2: 1,
-            });
-            todo.push(Small { row, n1, n2: 1 });
+            todo.push((row + 1, n1, 1));
+            todo.push((row, n1, 1));
         } else {
             counts = counts + exchange_whole(s, t, u, row, n1, n2);
         }
@@ -123,7 +100,7 @@ pub fn exchange(
 }
 
 // The same exchange: two single rows straight by their swap, all else as above.
-pub fn exchange_straight(
+pub(crate) fn exchange_straight(
     s: Shape,
     t: &mut [f64],
     u: &mut [f64],

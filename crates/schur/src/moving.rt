@@ -31,7 +31,7 @@ pub trait Kind {
 
 // What is moved: one row, a 2-block, or the two rows of a 2-block that has split.
 #[derive(Clone, Copy, PartialEq, Eq)]
-pub enum Block {
+pub(crate) enum Block {
     One,
     Two,
     Parted,
@@ -39,7 +39,7 @@ pub enum Block {
 
 impl Block {
     // How many rows it has.
-    pub fn rows(self) -> usize
+    pub(crate) fn rows(self) -> usize
         ensures { result ≡ rows self }
     {
         match self {
@@ -49,7 +49,7 @@ impl Block {
     }
 
     // The block that begins in row p.
-    pub fn at(s: Shape, t: &[f64], p: usize) -> Block
+    pub(crate) fn at(s: Shape, t: &[f64], p: usize) -> Block
         requires { Holds s t.now × (p < s.n) }
         ensures { (number result ≡ Move.size_at binary64 s.ld s.n t.now p) × (rows result ≡ number result) × (p + rows result ≤ s.n) }
     {
@@ -65,7 +65,7 @@ impl Block {
 #[derive(Clone, Copy)]
 pub struct Moving {
     pub here: usize,
-    pub block: Block,
+    pub(crate) block: Block,
     pub counts: Counts,
 }
 
@@ -121,12 +121,7 @@ fn trying<K: Kind>(
 }
 
 // One row or a 2-block, past the block below.
-fn whole_down<K: Kind>(
-    s: Shape,
-    t: &mut [f64],
-    u: &mut [f64],
-    m: Moving,
-) -> Result<Moving, Moving>
+fn whole_down<K: Kind>(s: Shape, t: &mut [f64], u: &mut [f64], m: Moving) -> Result<Moving, Moving>
     requires { Holds s t.old × Beside s u.old × Few 1000 m × (rows m.block ≡ number m.block) × (m.here + rows m.block < s.n) }
     ensures stands { Takes s t.old u.old m t.new u.new result (Stopping.whole_down (K.kind s.ld s.n) binary64 s.ld s.n) }
     ensures counts { IfOk result (λ r. (m.here < r.here) × (r.here + rows m.block ≤ s.n) × More 4 m r) }
@@ -159,12 +154,7 @@ fn past_two_down<K: Kind>(
 }
 
 // Two rows, the lower first.
-fn apart_down<K: Kind>(
-    s: Shape,
-    t: &mut [f64],
-    u: &mut [f64],
-    m: Moving,
-) -> Result<Moving, Moving>
+fn apart_down<K: Kind>(s: Shape, t: &mut [f64], u: &mut [f64], m: Moving) -> Result<Moving, Moving>
     requires { Holds s t.old × Beside s u.old × Few 1000 m × (m.here + 3 ≤ s.n) }
     ensures stands { Takes s t.old u.old m t.new u.new result (Stopping.apart_down (K.kind s.ld s.n) binary64 s.ld s.n) }
     ensures counts { IfOk result (λ r. (m.here < r.here) × (r.here + 2 ≤ s.n) × More 12 m r) }
@@ -180,7 +170,7 @@ fn apart_down<K: Kind>(
 }
 
 // One step down.
-pub fn step_down<K: Kind>(
+pub(crate) fn step_down<K: Kind>(
     s: Shape,
     t: &mut [f64],
     u: &mut [f64],
@@ -197,12 +187,7 @@ pub fn step_down<K: Kind>(
 }
 
 // One row or a 2-block, past the block above.
-fn whole_up<K: Kind>(
-    s: Shape,
-    t: &mut [f64],
-    u: &mut [f64],
-    m: Moving,
-) -> Result<Moving, Moving>
+fn whole_up<K: Kind>(s: Shape, t: &mut [f64], u: &mut [f64], m: Moving) -> Result<Moving, Moving>
     requires { Holds s t.old × Beside s u.old × Few 1000 m × (rows m.block ≡ number m.block) × (0 < m.here) × (m.here + rows m.block ≤ s.n) }
     ensures stands { Takes s t.old u.old m t.new u.new result (Stopping.whole_up (K.kind s.ld s.n) binary64 s.ld s.n) }
     ensures counts { IfOk result (λ r. (r.here < m.here) × More 4 m r) }
@@ -215,12 +200,7 @@ fn whole_up<K: Kind>(
 }
 
 // Past a 2-block that the upper row has passed, and that may have split at that.
-fn past_two_up<K: Kind>(
-    s: Shape,
-    t: &mut [f64],
-    u: &mut [f64],
-    m: Moving,
-) -> Result<Moving, Moving>
+fn past_two_up<K: Kind>(s: Shape, t: &mut [f64], u: &mut [f64], m: Moving) -> Result<Moving, Moving>
     requires { Holds s t.old × Beside s u.old × Few 1100 m × (2 ≤ m.here) × (m.here + 2 ≤ s.n) }
     ensures stands { Takes s t.old u.old m t.new u.new result (Stopping.past_two_up (K.kind s.ld s.n) binary64 s.ld s.n) }
     ensures counts { IfOk result (λ r. (r.here ≡ m.here - 2) × More 8 m r) }
@@ -236,12 +216,7 @@ fn past_two_up<K: Kind>(
 }
 
 // Two rows, the upper first.
-fn apart_up<K: Kind>(
-    s: Shape,
-    t: &mut [f64],
-    u: &mut [f64],
-    m: Moving,
-) -> Result<Moving, Moving>
+fn apart_up<K: Kind>(s: Shape, t: &mut [f64], u: &mut [f64], m: Moving) -> Result<Moving, Moving>
     requires { Holds s t.old × Beside s u.old × Few 1000 m × (0 < m.here) × (m.here + 2 ≤ s.n) }
     ensures stands { Takes s t.old u.old m t.new u.new result (Stopping.apart_up (K.kind s.ld s.n) binary64 s.ld s.n) }
     ensures counts { IfOk result (λ r. (r.here < m.here) × More 12 m r) }
@@ -257,7 +232,7 @@ fn apart_up<K: Kind>(
 }
 
 // One step up.
-pub fn step_up<K: Kind>(
+pub(crate) fn step_up<K: Kind>(
     s: Shape,
     t: &mut [f64],
     u: &mut [f64],

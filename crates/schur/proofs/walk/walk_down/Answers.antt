@@ -17,8 +17,7 @@ loop-on-preserved g c =
     let x = c.step_down.auto in
     let y = c.in_ok-on.ensures in
     let l = y.counts.0 in
-    let q = c.loop-on-test.true in
-    (
+    let q = c.loop-on-test.true in (
       x.t ∙ v.0,
       x.u ∙ v.1,
       search rules,
