@@ -69,8 +69,12 @@ unfolding Within Fit
 fit n [] w = tt
 fit n (s ∷ rest) w = (sizes w.0, fit n rest w.2)
 
-pub a_pair : (n : ℕ) (todo : List Small) → Within n todo → length todo ≤ pairs todo
+a_pair : (n : ℕ) (todo : List Small) → Within n todo → length todo ≤ pairs todo
 a_pair n todo w = a_pair_each todo (fit n todo w)
+
+-- how many rounds are left at most
+unfoldable pub left : List Small → ℕ
+left todo = 2 * pairs todo - length todo
 
 -- the rows of the parts
 lower-row : {n j n1 n2 : ℕ} → Rows n j n1 n2 → n1 ≡ 2 → Rows n (j + 1) 1 n2
@@ -189,20 +193,19 @@ module _ {ld n : ℕ} {u₀ t u : List Float} (s : Small) (rest : List Small) {s
         fewer = omega arith;
       }
 
-  -- the measure falls
-  parted_less : (left p : ℕ) → left ≡ length (s ∷ rest) → p ≡ pairs (s ∷ rest) → 2 * p - (left + 1) < 2 * pairs (s ∷ rest) - left
-  parted_less left _ e p = let a = a_pair n (s ∷ rest) w.within in omega arith
+  -- fewer are left
+  parted_fewer : (todo : List Small) → length todo ≡ length (s ∷ rest) + 1 → pairs todo ≡ pairs (s ∷ rest) → left todo < left (s ∷ rest)
+  unfolding left
+  parted_fewer todo e p = let a = a_pair n (s ∷ rest) w.within in omega arith
 
-  pub upper_less : (left : ℕ) → left ≡ length (s ∷ rest) → (eqb s.n1 2 && zero_below binary64 ld t s.row) ≡ true
-      → 2 * pairs (small (s.row + 1) 1 s.n2 ∷ small s.row 1 s.n2 ∷ rest) - (left + 1) < 2 * pairs (s ∷ rest) - left
+  pub upper_fewer : (eqb s.n1 2 && zero_below binary64 ld t s.row) ≡ true → left (small (s.row + 1) 1 s.n2 ∷ small s.row 1 s.n2 ∷ rest) < left (s ∷ rest)
   unfolding pairs
-  upper_less left e h = let p = upper_pairs s.n1 s.n2 (is-two binary64 ld s.n1 s.row t h) in parted_less left _ e (omega arith)
+  upper_fewer h = let p = upper_pairs s.n1 s.n2 (is-two binary64 ld s.n1 s.row t h) in parted_fewer _ (omega arith) (omega arith)
 
-  pub lower_less : (left : ℕ) → left ≡ length (s ∷ rest) → (eqb s.n2 2 && zero_below binary64 ld t (s.row + s.n1)) ≡ true
-      → 2 * pairs (small s.row s.n1 1 ∷ small (s.row + 1) s.n1 1 ∷ rest) - (left + 1) < 2 * pairs (s ∷ rest) - left
+  pub lower_fewer : (eqb s.n2 2 && zero_below binary64 ld t (s.row + s.n1)) ≡ true → left (small s.row s.n1 1 ∷ small (s.row + 1) s.n1 1 ∷ rest) < left (s ∷ rest)
   unfolding pairs
-  lower_less left e h = let p = lower_pairs s.n1 s.n2 (is-two binary64 ld s.n2 (s.row + s.n1) t h) in parted_less left _ e (omega arith)
+  lower_fewer h = let p = lower_pairs s.n1 s.n2 (is-two binary64 ld s.n2 (s.row + s.n1) t h) in parted_fewer _ (omega arith) (omega arith)
 
-  pub whole_less : (left : ℕ) → left ≡ length (s ∷ rest) → 2 * pairs rest - (left - 1) < 2 * pairs (s ∷ rest) - left
-  unfolding pairs Within
-  whole_less left e = let a = a_pair n rest w.within.2 in let p = one-pair (sizes rows) in omega arith
+  pub whole_fewer : left rest < left (s ∷ rest)
+  unfolding left pairs Within
+  whole_fewer = let a = a_pair n rest w.within.2 in let p = one-pair (sizes rows) in omega arith

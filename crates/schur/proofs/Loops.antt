@@ -1,82 +1,70 @@
--- The loops of a move: with k steps left, going on from where it stands gives the whole. Assumes nothing.
+-- The loops of a walk: with i steps left, going on from where it stands gives the whole. Assumes nothing.
 use mathlib.Core.Path.{◌≡◌, refl, sym, ◌∙◌}
-use Prim.Native.Nat.{ℕ, zero, suc, ◌+◌, ◌≤◌, ◌<◌}
+use Prim.Native.Nat.{ℕ, zero, suc, ◌≤◌, ◌<◌}
 use native.Mathlib.Omega.{arith}
 use mathlib.Core.List.{List}
-use lib.Ieee.{Float, binary64}
+use lib.Ieee.{Float, Format}
 use borrow.Author.Tests.{lt-ltb, le-ltb}
+use Rattle.std.proofs.Common.{Ok, Err}
 use Rattle.model.specs.Move as Move
-use Rattle.schur.specs.Stands.{Stands}
-use Rattle.schur.proofs.Ways.{stands_as}
+use Rattle.model.specs.Stopping as Stopping
+use Rattle.model.specs.Stopping.{Kind, goes, onward, step_down, walk_down, step_up, walk_up}
+use Rattle.form.specs.declared.shape.Shape.{Shape}
+use Rattle.schur.specs.declared.moving.Moving.{Moving}
+use Rattle.schur.specs.Stands.{Stands, Stood, Takes}
+use Rattle.schur.proofs.Ways.{stood_as, rests, goes_on_lem}
 
--- ---- down
-pub record Downward (ld n goal : ℕ) (u₀ t u : List Float) (h b s d : ℕ) (whole : Move.Moving) : Type 0 where
-  pub k : ℕ
+-- what is left of a walk by its steps, `far` the rows to the goal
+pub record Left (walk : ℕ → Move.Moving → Stopping.Going) (far : ℕ) (s : Shape) (u₀ t u : List Float) (m : Moving) (whole : Stopping.Going) : Type 0 where
+  pub i : ℕ
   pub on : Move.Moving
-  pub near : goal ≤ h + k
-  pub stands : Stands ld n u₀ t u h b s d on
-  pub gives : Move.down_by k binary64 ld n goal on ≡ whole
+  pub near : far ≤ i
+  pub stands : Stands s u₀ t u m on
+  pub gives : walk i on ≡ whole
 
-down-more : (ld n goal k : ℕ) (M : Move.Moving) → M.here < goal → Move.down_by (suc k) binary64 ld n goal M ≡ Move.down_by k binary64 ld n goal (Move.down_step binary64 ld n M)
-unfolding Move.down_by
-down-more ld n goal k M e = rw (lt-ltb M.here goal e)
+module _ (walk : ℕ → Move.Moving → Stopping.Going) (step : Move.Moving → Stopping.Going) {far : ℕ} {s : Shape} {u₀ t u t₁ u₁ : List Float} {m r : Moving} {whole : Stopping.Going} (w : Left walk far s u₀ t u m whole) where
+  -- a step that goes on
+  pub more : 0 < far → (far₁ : ℕ) → far₁ < far → ((i : ℕ) (M : Move.Moving) → m.here ≡ M.here → walk (suc i) M ≡ onward (step M) (walk i)) → Takes s t u m t₁ u₁ (Ok r) step
+      → Left walk far₁ s u₀ t₁ u₁ r whole
+  more p far₁ l by f = go w.i w.near w.gives
+    where
+      go : (i : ℕ) → far ≤ i → walk i w.on ≡ whole → Left walk far₁ s u₀ t₁ u₁ r whole
+      go zero a b = absurd (omega arith)
+      go (suc i) a b =
+          let x = f u₀ w.on w.stands in
+          let S = step w.on in
+          record { i = i; on = S.moving; near = omega arith; stands = x.stands; gives = goes_on_lem S (walk i) (sym x.stopped) ∙ sym (by i w.on w.stands.here) ∙ b }
 
-down-stays : (ld n goal k : ℕ) (M : Move.Moving) → goal ≤ M.here → Move.down_by k binary64 ld n goal M ≡ M
-unfolding Move.down_by
-down-stays ld n goal zero M e = refl
-down-stays ld n goal (suc k) M e = rw (le-ltb M.here goal e)
+  -- a step that stops
+  pub stops : 0 < far → ((i : ℕ) (M : Move.Moving) → m.here ≡ M.here → walk (suc i) M ≡ onward (step M) (walk i)) → Takes s t u m t₁ u₁ (Err r) step → Stood s u₀ t₁ u₁ (Err r) whole
+  stops p by f = go w.i w.near w.gives
+    where
+      go : (i : ℕ) → far ≤ i → walk i w.on ≡ whole → Stood s u₀ t₁ u₁ (Err r) whole
+      go zero a b = absurd (omega arith)
+      go (suc i) a b =
+          let x = f u₀ w.on w.stands in
+          stood_as (rests (step w.on) (walk i) (sym x.stopped) ∙ sym (by i w.on w.stands.here) ∙ b) x
 
-pub down_on : {ld n goal : ℕ} {u₀ t u t₁ u₁ : List Float} {h b s d h₁ b₁ s₁ d₁ : ℕ} {whole : Move.Moving} → Downward ld n goal u₀ t u h b s d whole → h < goal → h < h₁
-    → ((v : List Float) (M : Move.Moving) → Stands ld n v t u h b s d M → Stands ld n v t₁ u₁ h₁ b₁ s₁ d₁ (Move.down_step binary64 ld n M))
-    → Downward ld n goal u₀ t₁ u₁ h₁ b₁ s₁ d₁ whole
-down_on {ld} {n} {goal} {u₀} {t} {u} {t₁} {u₁} {h} {b} {s} {d} {h₁} {b₁} {s₁} {d₁} {whole} w l g f = go w.k w.near w.gives
-  where
-    go : (k : ℕ) → goal ≤ h + k → Move.down_by k binary64 ld n goal w.on ≡ whole → Downward ld n goal u₀ t₁ u₁ h₁ b₁ s₁ d₁ whole
-    go zero e i = absurd (omega arith)
-    go (suc k) e i =
-        record {
-          k = k;
-          on = Move.down_step binary64 ld n w.on;
-          near = omega arith;
-          stands = f u₀ w.on w.stands;
-          gives = sym (down-more ld n goal k w.on (let q = w.stands.here in omega arith)) ∙ i;
-        }
+pub ends : {walk : ℕ → Move.Moving → Stopping.Going} {far : ℕ} {s : Shape} {u₀ t u : List Float} {m : Moving} {whole : Stopping.Going} → Left walk far s u₀ t u m whole
+    → ((i : ℕ) (M : Move.Moving) → m.here ≡ M.here → walk i M ≡ goes M) → Stood s u₀ t u (Ok m) whole
+ends w by = stood_as (sym (by w.i w.on w.stands.here) ∙ w.gives) (record { stopped = refl; stands = w.stands })
 
-pub down-end : {ld n goal : ℕ} {u₀ t u : List Float} {h b s d : ℕ} {whole : Move.Moving} → Downward ld n goal u₀ t u h b s d whole → goal ≤ h → Stands ld n u₀ t u h b s d whole
-down-end {ld} {n} {goal} w l = stands_as (sym (down-stays ld n goal w.k w.on (let q = w.stands.here in omega arith)) ∙ w.gives) w.stands
+-- ---- down and up
+module _ (k : Kind) (f : Format) (ld n goal h : ℕ) where
+  pub down-more : h < goal → (i : ℕ) (M : Move.Moving) → h ≡ M.here → walk_down k (suc i) f ld n goal M ≡ onward (step_down k f ld n M) (walk_down k i f ld n goal)
+  unfolding walk_down
+  down-more l i M e = rw (← e, lt-ltb h goal l)
 
--- ---- up
-pub record Upward (ld n goal : ℕ) (u₀ t u : List Float) (h b s d : ℕ) (whole : Move.Moving) : Type 0 where
-  pub k : ℕ
-  pub on : Move.Moving
-  pub near : h ≤ goal + k
-  pub stands : Stands ld n u₀ t u h b s d on
-  pub gives : Move.up_by k binary64 ld n goal on ≡ whole
+  pub down_ends : goal ≤ h → (i : ℕ) (M : Move.Moving) → h ≡ M.here → walk_down k i f ld n goal M ≡ goes M
+  unfolding walk_down
+  down_ends l zero M e = refl
+  down_ends l (suc i) M e = rw (← e, le-ltb h goal l)
 
-up_more : (ld n goal k : ℕ) (M : Move.Moving) → goal < M.here → Move.up_by (suc k) binary64 ld n goal M ≡ Move.up_by k binary64 ld n goal (Move.up_step binary64 ld n M)
-unfolding Move.up_by
-up_more ld n goal k M e = rw (lt-ltb goal M.here e)
+  pub up_more : goal < h → (i : ℕ) (M : Move.Moving) → h ≡ M.here → walk_up k (suc i) f ld n goal M ≡ onward (step_up k f ld n M) (walk_up k i f ld n goal)
+  unfolding walk_up
+  up_more l i M e = rw (← e, lt-ltb goal h l)
 
-up_stays : (ld n goal k : ℕ) (M : Move.Moving) → M.here ≤ goal → Move.up_by k binary64 ld n goal M ≡ M
-unfolding Move.up_by
-up_stays ld n goal zero M e = refl
-up_stays ld n goal (suc k) M e = rw (le-ltb goal M.here e)
-
-pub up_on : {ld n goal : ℕ} {u₀ t u t₁ u₁ : List Float} {h b s d h₁ b₁ s₁ d₁ : ℕ} {whole : Move.Moving} → Upward ld n goal u₀ t u h b s d whole → goal < h → h₁ < h
-    → ((v : List Float) (M : Move.Moving) → Stands ld n v t u h b s d M → Stands ld n v t₁ u₁ h₁ b₁ s₁ d₁ (Move.up_step binary64 ld n M))
-    → Upward ld n goal u₀ t₁ u₁ h₁ b₁ s₁ d₁ whole
-up_on {ld} {n} {goal} {u₀} {t} {u} {t₁} {u₁} {h} {b} {s} {d} {h₁} {b₁} {s₁} {d₁} {whole} w l g f = go w.k w.near w.gives
-  where
-    go : (k : ℕ) → h ≤ goal + k → Move.up_by k binary64 ld n goal w.on ≡ whole → Upward ld n goal u₀ t₁ u₁ h₁ b₁ s₁ d₁ whole
-    go zero e i = absurd (omega arith)
-    go (suc k) e i =
-        record {
-          k = k;
-          on = Move.up_step binary64 ld n w.on;
-          near = omega arith;
-          stands = f u₀ w.on w.stands;
-          gives = sym (up_more ld n goal k w.on (let q = w.stands.here in omega arith)) ∙ i;
-        }
-
-pub up_end : {ld n goal : ℕ} {u₀ t u : List Float} {h b s d : ℕ} {whole : Move.Moving} → Upward ld n goal u₀ t u h b s d whole → h ≤ goal → Stands ld n u₀ t u h b s d whole
-up_end {ld} {n} {goal} w l = stands_as (sym (up_stays ld n goal w.k w.on (let q = w.stands.here in omega arith)) ∙ w.gives) w.stands
+  pub up_ends : h ≤ goal → (i : ℕ) (M : Move.Moving) → h ≡ M.here → walk_up k i f ld n goal M ≡ goes M
+  unfolding walk_up
+  up_ends l zero M e = refl
+  up_ends l (suc i) M e = rw (← e, le-ltb goal h l)

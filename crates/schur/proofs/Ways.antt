@@ -1,141 +1,218 @@
--- One exchange more on the way of a move. Assumes nothing.
-use mathlib.Core.Path.{◌≡◌, refl, ◌∙◌, subst}
+-- One exchange more on the way of a move, and its steps by the code's tests. Assumes nothing.
+use mathlib.Core.Path.{◌≡◌, refl, sym, ap, ◌∙◌, subst}
 use Prim.Native.Nat.{ℕ, ◌+◌, ◌-◌, ◌≤◌, ◌<◌}
+use native.Mathlib.Omega.{arith}
 use mathlib.Core.Bool.{true, false, ◌&&◌, cond}
 use mathlib.Core.List.{List, []}
+use mathlib.Core.Logic.{◌⊎◌, inl, inr}
 use lib.Dec.{eqb}
 use lib.ListN.{length}
 use lib.Ieee.{Float, binary64}
 use borrow.Author.Tests.{eq-eqb, ne_eqb, lt-ltb, le-ltb}
+use Rattle.std.proofs.Common.{Result, Ok, Err, is_err}
 use Rattle.model.specs.Form.{zero_below}
 use Rattle.model.specs.Columns.{on_factor}
-use Rattle.model.specs.Swaps.{Change, declines_in, unchanged}
-use Rattle.model.specs.Exchange.{Exchanged, exchanged, exchange}
+use Rattle.model.specs.Swaps.{Change, unchanged, declines_in}
+use Rattle.model.specs.Exchange.{Exchanged, exchanged}
 use Rattle.model.specs.Move as Move
+use Rattle.model.specs.Stopping as Stopping
+use Rattle.model.specs.Stopping.{Kind, goes, onward, trying, whole_down, past_two_down, apart_down, step_down, walk_down, whole_up, past_two_up, apart_up, step_up, walk_up, walk_from, walk, goes_on}
+use Rattle.form.specs.declared.shape.Shape.{Shape}
+use Rattle.form.specs.Shaped.{IsOf}
 use Rattle.swaps.specs.Done.{Step}
-use Rattle.schur.specs.Stands.{Stands, rows}
 use Rattle.swaps.proofs.Steps.{step_then}
+use Rattle.laws_stopping.proofs.Control.{one-control}
+use Rattle.schur.specs.declared.counts.Counts.{Counts}
+use Rattle.schur.specs.declared.moving.Block.{Block}
+use Rattle.schur.specs.declared.moving.Block.TheVariants.{One, Two, Parted}
+use Rattle.schur.specs.declared.moving.Moving.{Moving}
+use Rattle.schur.specs.Kinds.{either, Made}
+use Rattle.schur.specs.Counted.{both}
+use Rattle.schur.specs.Stands.{number, rows, Stands, Stood, Takes}
 
-pub one_more : (ld n j n1 n2 : ℕ) {u₀ t u t₁ u₁ : List Float} {h b s d s₁ d₁ : ℕ} {M : Move.Moving}
-    → Stands ld n u₀ t u h b s d M → Step ld n u t₁ u₁ s₁ d₁ (exchange binary64 ld n j n1 n2 t) → length u₁ ≡ length u
-    → Stands ld n u₀ t₁ u₁ h b (s + s₁) (d + d₁) (Move.exchanging binary64 ld n j n1 n2 M)
-unfolding Move.exchanging
-one_more ld n j n1 n2 a e k =
-    record { here = a.here; nbf = a.nbf; step = step_then (exchange binary64 ld n j n1 n2) a.step a.kept e; kept = k ∙ a.kept }
+pub stood_as : {s : Shape} {u₀ t u : List Float} {r : Result Moving Moving} {G H : Stopping.Going} → G ≡ H → Stood s u₀ t u r G → Stood s u₀ t u r H
+stood_as {s} {u₀} {t} {u} {r} e a = subst (λ (X : Stopping.Going). Stood s u₀ t u r X) e a
 
-pub stands_as : {ld n : ℕ} {u₀ t u : List Float} {h b s d : ℕ} {M N : Move.Moving} → M ≡ N → Stands ld n u₀ t u h b s d M → Stands ld n u₀ t u h b s d N
-stands_as {ld} {n} {u₀} {t} {u} {h} {b} {s} {d} e a = subst (λ (X : Move.Moving). Stands ld n u₀ t u h b s d X) e a
+-- ---- on with it, unless it has stopped
+pub rests : (G : Stopping.Going) (next : Move.Moving → Stopping.Going) → G.stopped ≡ true → G ≡ onward G next
+unfolding onward
+rests G next e = rw e
 
-pub arrives : (row : ℕ) {ld n : ℕ} {u₀ t u : List Float} {h b s d : ℕ} {M : Move.Moving} → Stands ld n u₀ t u h b s d M → Stands ld n u₀ t u row b s d (Move.arrived row M)
+pub goes_on_lem : (G : Stopping.Going) (next : Move.Moving → Stopping.Going) → G.stopped ≡ false → next G.moving ≡ onward G next
+unfolding onward
+goes_on_lem G next e = rw e
+
+module _ {s : Shape} {t u t₁ u₁ : List Float} {m a : Moving} {step : Move.Moving → Stopping.Going} (next : Move.Moving → Stopping.Going) where
+  -- one that has stopped goes no further
+  pub halts : Takes s t u m t₁ u₁ (Err a) step → Takes s t u m t₁ u₁ (Err a) (λ (M : Move.Moving). onward (step M) next)
+  halts f u₀ M h = let x = f u₀ M h in stood_as (rests (step M) next (sym x.stopped)) x
+
+  pub follows : {t₂ u₂ : List Float} {r : Result Moving Moving} → Takes s t u m t₁ u₁ (Ok a) step → Takes s t₁ u₁ a t₂ u₂ r next
+      → Takes s t u m t₂ u₂ r (λ (M : Move.Moving). onward (step M) next)
+  follows f g u₀ M h =
+      let x = f u₀ M h in
+      stood_as (goes_on_lem (step M) next (sym x.stopped)) (g u₀ (step M).moving x.stands)
+
+-- ---- one exchange more
+pub one_more : (k : Kind) (s : Shape) (j n1 n2 : ℕ) {t u t₁ u₁ : List Float} {m : Moving} {r : Result Counts Counts} → Made k s j n1 n2 t u t₁ u₁ r → length u₁ ≡ length u
+    → {q : Result Moving Moving} → is_err q ≡ is_err r → either q ≡ record m { counts = both m.counts (either r) } → Takes s t u m t₁ u₁ q (trying k j n1 n2)
+unfolding trying
+one_more k s j n1 n2 x l e i u₀ M a =
+    record {
+      stopped = e ∙ x.stops ∙ rw (x.step.declined, a.step.done.form);
+      stands = rw i (record { here = a.here; nbf = a.nbf; step = step_then (k.exchange j n1 n2) a.step a.kept x.step; kept = l ∙ a.kept });
+    }
+
+-- ---- arrived in a row
+pub arrives : {s : Shape} {t u : List Float} {a r : Moving} {row : ℕ} → r ≡ record a { here = row } → Takes s t u a t u (Ok r) (λ (M : Move.Moving). goes (Move.arrived row M))
 unfolding Move.arrived
-arrives row a = record { here = refl; nbf = a.nbf; step = a.step; kept = a.kept }
+arrives e u₀ M a = record { stopped = refl; stands = rw e (record { here = refl; nbf = a.nbf; step = a.step; kept = a.kept }) }
 
-pub lands : (row c : ℕ) {ld n : ℕ} {u₀ t u : List Float} {h b s d : ℕ} {M : Move.Moving} → Stands ld n u₀ t u h b s d M → c ≡ cond (eqb b 2 && zero_below binary64 ld t row) 3 b
-    → Stands ld n u₀ t u row c s d (Move.landed_whole binary64 ld row M)
+pub lands : {s : Shape} {u₀ t u : List Float} {m r : Moving} {M : Move.Moving} (row : ℕ) → Stands s u₀ t u m M → r.here ≡ row → r.counts ≡ m.counts
+    → number r.block ≡ cond (eqb (number m.block) 2 && zero_below binary64 s.ld t row) 3 (number m.block) → Stands s u₀ t u r (Move.landed_whole binary64 s.ld row M)
 unfolding Move.landed_whole
-lands row c {ld} {n} a e = record { here = refl; nbf = e ∙ rw (a.nbf, a.step.done.form); step = a.step; kept = a.kept }
+lands row a h c e = record { here = h; nbf = e ∙ rw (a.nbf, a.step.done.form); step = rw c a.step; kept = a.kept }
 
--- ---- the steps by the code's tests, on the numbers and the form as they stand
-module _ (ld n : ℕ) (M : Move.Moving) (h b : ℕ) (t : List Float) (eh : h ≡ M.here) (eb : b ≡ M.nbf) (et : t ≡ M.change.form) where
-  pub down_whole-is : (next : ℕ) → next ≡ Move.size_at binary64 ld n t (h + b)
-      → Move.landed_whole binary64 ld (h + next) (Move.exchanging binary64 ld n h b next M) ≡ Move.down_whole binary64 ld n M
-  unfolding Move.down_whole
-  down_whole-is next e = rw (e, et, eh, eb)
+pub landed : (row : ℕ) {s : Shape} {t u : List Float} {a r : Moving} → ((u₀ v : List Float) (M : Move.Moving) → Stands s u₀ t v a M → Stands s u₀ t v r (Move.landed_whole binary64 s.ld row M))
+    → Takes s t u a t u (Ok r) (λ (M : Move.Moving). goes (Move.landed_whole binary64 s.ld row M))
+landed row f u₀ M a = record { stopped = refl; stands = f u₀ _ M a }
 
-  pub down-split : zero_below binary64 ld t (h + 1) ≡ true
-      → Move.arrived (h + 2) (Move.exchanging binary64 ld n (h + 1) 1 1 (Move.exchanging binary64 ld n h 1 1 M)) ≡ Move.down_past_two binary64 ld n M
-  unfolding Move.down_past_two
-  down-split e = rw (← et, ← eh, e)
+-- ---- what is moved, parted or not
+pub not_parted : {b : Block} → (b ≡ One) ⊎ (b ≡ Two) → (eqb (number b) 3 ≡ false) × (rows b ≡ number b)
+not_parted (inl e) = rw e (refl, refl)
+not_parted (inr e) = rw e (refl, refl)
 
-  pub down-two : zero_below binary64 ld t (h + 1) ≡ false → Move.arrived (h + 2) (Move.exchanging binary64 ld n h 1 2 M) ≡ Move.down_past_two binary64 ld n M
-  unfolding Move.down_past_two
-  down-two e = rw (← et, ← eh, e)
+pub not_two : (b : Block) → (b ≡ Two → ⊥) → eqb (number b) 2 ≡ false
+not_two One h = refl
+not_two Two h = absurd (h refl)
+not_two Parted h = refl
 
-  pub down_one_is : (next : ℕ) → next ≡ Move.size_at binary64 ld n t (h + 2) → next ≡ 1
-      → Move.arrived (h + 1) (Move.exchanging binary64 ld n h 1 1 (Move.exchanging binary64 ld n (h + 1) 1 next M)) ≡ Move.down_apart binary64 ld n M
-  unfolding Move.down_apart
-  down_one_is next e k = rw (← et, ← eh, ← e, k)
+-- ---- two rows, whose first exchange has stopped the move
+module _ (k : Kind) {s : Shape} {t u t₁ u₁ : List Float} {m a : Moving} {next : ℕ} where
+  pub first_down_halts : next ≡ Move.size_at binary64 s.ld s.n t (m.here + 2) → Takes s t u m t₁ u₁ (Err a) (trying k (m.here + 1) 1 next) → Takes s t u m t₁ u₁ (Err a) (apart_down k binary64 s.ld s.n)
+  unfolding apart_down
+  first_down_halts e f u₀ M a =
+      stood_as (rw (← a.step.done.form, ← a.here, ← e))
+      (halts (λ (e : Move.Moving). cond (eqb next 1) (onward (trying k m.here 1 1 e) (λ (d : Move.Moving). goes (Move.arrived (m.here + 1) d))) (past_two_down k binary64 s.ld s.n e)) f u₀ M a)
 
-  pub down_past_is : (next : ℕ) → next ≡ Move.size_at binary64 ld n t (h + 2) → (next ≡ 1 → ⊥)
-      → Move.down_past_two binary64 ld n (Move.exchanging binary64 ld n (h + 1) 1 next M) ≡ Move.down_apart binary64 ld n M
-  unfolding Move.down_apart
-  down_past_is next e k = rw (← et, ← eh, ← e, ne_eqb next 1 k)
+  pub first_up_halts : next ≡ Move.size_above binary64 s.ld t m.here → Takes s t u m t₁ u₁ (Err a) (trying k (m.here - next) next 1) → Takes s t u m t₁ u₁ (Err a) (apart_up k binary64 s.ld s.n)
+  unfolding apart_up
+  first_up_halts e f u₀ M a =
+      stood_as (rw (← a.step.done.form, ← a.here, ← e))
+      (halts (λ (e : Move.Moving). cond (eqb next 1) (onward (trying k m.here 1 1 e) (λ (d : Move.Moving). goes (Move.arrived (m.here - 1) d))) (past_two_up k binary64 s.ld s.n e)) f u₀ M a)
 
-  pub down_apart-is : b ≡ 3 → Move.down_apart binary64 ld n M ≡ Move.down_step binary64 ld n M
-  unfolding Move.down_step
-  down_apart-is e = rw (← eb, e)
+-- ---- the steps by the code's tests, on the row and the form as they stand
+module _ (k : Kind) {s : Shape} {t u t₁ u₁ : List Float} {m : Moving} {r : Result Moving Moving} where
+  pub whole_down-is : {next : ℕ} (b : ℕ) → b ≡ number m.block → next ≡ Move.size_at binary64 s.ld s.n t (m.here + b)
+      → Takes s t u m t₁ u₁ r (λ (M : Move.Moving). onward (trying k m.here b next M) (λ (e : Move.Moving). goes (Move.landed_whole binary64 s.ld (m.here + next) e)))
+      → Takes s t u m t₁ u₁ r (whole_down k binary64 s.ld s.n)
+  unfolding whole_down
+  whole_down-is b i e f u₀ M a = stood_as (rw (e, i, a.step.done.form, a.here, a.nbf)) (f u₀ M a)
 
-  pub down_block_is : (b ≡ 3 → ⊥) → Move.down_whole binary64 ld n M ≡ Move.down_step binary64 ld n M
-  unfolding Move.down_step
-  down_block_is e = rw (← eb, ne_eqb b 3 e)
+  pub split-down : zero_below binary64 s.ld t (m.here + 1) ≡ true
+      → Takes s t u m t₁ u₁ r (λ (M : Move.Moving). onward (onward (trying k m.here 1 1 M) (trying k (m.here + 1) 1 1)) (λ (e : Move.Moving). goes (Move.arrived (m.here + 2) e)))
+      → Takes s t u m t₁ u₁ r (past_two_down k binary64 s.ld s.n)
+  unfolding past_two_down
+  split-down e f u₀ M a = stood_as (rw (← a.step.done.form, ← a.here, e)) (f u₀ M a)
 
-  pub up_whole-is : (next : ℕ) → next ≡ Move.size_above binary64 ld t h
-      → Move.landed_whole binary64 ld (h - next) (Move.exchanging binary64 ld n (h - next) next b M) ≡ Move.up_whole binary64 ld n M
-  unfolding Move.up_whole
-  up_whole-is next e = rw (e, et, eh, eb)
+  pub two_down : zero_below binary64 s.ld t (m.here + 1) ≡ false
+      → Takes s t u m t₁ u₁ r (λ (M : Move.Moving). onward (trying k m.here 1 2 M) (λ (e : Move.Moving). goes (Move.arrived (m.here + 2) e)))
+      → Takes s t u m t₁ u₁ r (past_two_down k binary64 s.ld s.n)
+  unfolding past_two_down
+  two_down e f u₀ M a = stood_as (rw (← a.step.done.form, ← a.here, e)) (f u₀ M a)
 
-  pub up_split : zero_below binary64 ld t (h - 1) ≡ true
-      → Move.arrived (h - 2) (Move.exchanging binary64 ld n (h - 1) 1 1 (Move.exchanging binary64 ld n h 1 1 M)) ≡ Move.up_past_two binary64 ld n M
-  unfolding Move.up_past_two
-  up_split e = rw (← et, ← eh, e)
+  pub one_down_is : {next : ℕ} → next ≡ Move.size_at binary64 s.ld s.n t (m.here + 2) → next ≡ 1
+      → Takes s t u m t₁ u₁ r (λ (M : Move.Moving). onward (trying k (m.here + 1) 1 next M) (λ (e : Move.Moving). onward (trying k m.here 1 1 e) (λ (d : Move.Moving). goes (Move.arrived (m.here + 1) d))))
+      → Takes s t u m t₁ u₁ r (apart_down k binary64 s.ld s.n)
+  unfolding apart_down
+  one_down_is e i f u₀ M a = stood_as (rw (← a.step.done.form, ← a.here, ← e, i)) (f u₀ M a)
 
-  pub up_two : zero_below binary64 ld t (h - 1) ≡ false → Move.arrived (h - 2) (Move.exchanging binary64 ld n (h - 1) 2 1 M) ≡ Move.up_past_two binary64 ld n M
-  unfolding Move.up_past_two
-  up_two e = rw (← et, ← eh, e)
+  pub past_down_is : {next : ℕ} → next ≡ Move.size_at binary64 s.ld s.n t (m.here + 2) → (next ≡ 1 → ⊥)
+      → Takes s t u m t₁ u₁ r (λ (M : Move.Moving). onward (trying k (m.here + 1) 1 next M) (past_two_down k binary64 s.ld s.n)) → Takes s t u m t₁ u₁ r (apart_down k binary64 s.ld s.n)
+  unfolding apart_down
+  past_down_is {next} e i f u₀ M a = stood_as (rw (← a.step.done.form, ← a.here, ← e, ne_eqb next 1 i)) (f u₀ M a)
 
-  pub up_one_is : (next : ℕ) → next ≡ Move.size_above binary64 ld t h → next ≡ 1
-      → Move.arrived (h - 1) (Move.exchanging binary64 ld n h 1 1 (Move.exchanging binary64 ld n (h - next) next 1 M)) ≡ Move.up_apart binary64 ld n M
-  unfolding Move.up_apart
-  up_one_is next e k = rw (← et, ← eh, ← e, k)
+  pub apart_down-is : m.block ≡ Parted → Takes s t u m t₁ u₁ r (apart_down k binary64 s.ld s.n) → Takes s t u m t₁ u₁ r (step_down k binary64 s.ld s.n)
+  unfolding step_down
+  apart_down-is e f u₀ M a = stood_as (rw (← a.nbf, e)) (f u₀ M a)
 
-  pub up_past_is : (next : ℕ) → next ≡ Move.size_above binary64 ld t h → (next ≡ 1 → ⊥)
-      → Move.up_past_two binary64 ld n (Move.exchanging binary64 ld n (h - next) next 1 M) ≡ Move.up_apart binary64 ld n M
-  unfolding Move.up_apart
-  up_past_is next e k = rw (← et, ← eh, ← e, ne_eqb next 1 k)
+  pub block_down_is : eqb (number m.block) 3 ≡ false → Takes s t u m t₁ u₁ r (whole_down k binary64 s.ld s.n) → Takes s t u m t₁ u₁ r (step_down k binary64 s.ld s.n)
+  unfolding step_down
+  block_down_is e f u₀ M a = stood_as (rw (← a.nbf, e)) (f u₀ M a)
 
-  pub up_apart-is : b ≡ 3 → Move.up_apart binary64 ld n M ≡ Move.up_step binary64 ld n M
-  unfolding Move.up_step
-  up_apart-is e = rw (← eb, e)
+  pub whole_up-is : {next : ℕ} (b : ℕ) → b ≡ number m.block → next ≡ Move.size_above binary64 s.ld t m.here
+      → Takes s t u m t₁ u₁ r (λ (M : Move.Moving). onward (trying k (m.here - next) next b M) (λ (e : Move.Moving). goes (Move.landed_whole binary64 s.ld (m.here - next) e)))
+      → Takes s t u m t₁ u₁ r (whole_up k binary64 s.ld s.n)
+  unfolding whole_up
+  whole_up-is b i e f u₀ M a = stood_as (rw (e, i, a.step.done.form, a.here, a.nbf)) (f u₀ M a)
 
-  pub up_block_is : (b ≡ 3 → ⊥) → Move.up_whole binary64 ld n M ≡ Move.up_step binary64 ld n M
-  unfolding Move.up_step
-  up_block_is e = rw (← eb, ne_eqb b 3 e)
+  pub split_up : zero_below binary64 s.ld t (m.here - 1) ≡ true
+      → Takes s t u m t₁ u₁ r (λ (M : Move.Moving). onward (onward (trying k m.here 1 1 M) (trying k (m.here - 1) 1 1)) (λ (e : Move.Moving). goes (Move.arrived (m.here - 2) e)))
+      → Takes s t u m t₁ u₁ r (past_two_up k binary64 s.ld s.n)
+  unfolding past_two_up
+  split_up e f u₀ M a = stood_as (rw (← a.step.done.form, ← a.here, e)) (f u₀ M a)
 
--- ---- how many rows are moved
-pub rows-three : {b : ℕ} → b ≡ 3 → rows b ≡ 2
-unfolding rows
-rows-three e = rw e
+  pub two_up : zero_below binary64 s.ld t (m.here - 1) ≡ false
+      → Takes s t u m t₁ u₁ r (λ (M : Move.Moving). onward (trying k (m.here - 1) 2 1 M) (λ (e : Move.Moving). goes (Move.arrived (m.here - 2) e)))
+      → Takes s t u m t₁ u₁ r (past_two_up k binary64 s.ld s.n)
+  unfolding past_two_up
+  two_up e f u₀ M a = stood_as (rw (← a.step.done.form, ← a.here, e)) (f u₀ M a)
 
-pub rows_else : (b : ℕ) → (b ≡ 3 → ⊥) → rows b ≡ b
-unfolding rows
-rows_else b e = rw (ne_eqb b 3 e)
+  pub one_up_is : {next : ℕ} → next ≡ Move.size_above binary64 s.ld t m.here → next ≡ 1
+      → Takes s t u m t₁ u₁ r (λ (M : Move.Moving). onward (trying k (m.here - next) next 1 M) (λ (e : Move.Moving). onward (trying k m.here 1 1 e) (λ (d : Move.Moving). goes (Move.arrived (m.here - 1) d))))
+      → Takes s t u m t₁ u₁ r (apart_up k binary64 s.ld s.n)
+  unfolding apart_up
+  one_up_is e i f u₀ M a = stood_as (rw (← a.step.done.form, ← a.here, ← e, i)) (f u₀ M a)
 
--- ---- the whole move
-abbrev start : ℕ → ℕ → List Float → ℕ → Move.Moving
-start ld n t from = record { here = from; nbf = Move.size_at binary64 ld n t from; change = unchanged t; exchanges = [] }
+  pub past_up_is : {next : ℕ} → next ≡ Move.size_above binary64 s.ld t m.here → (next ≡ 1 → ⊥)
+      → Takes s t u m t₁ u₁ r (λ (M : Move.Moving). onward (trying k (m.here - next) next 1 M) (past_two_up k binary64 s.ld s.n)) → Takes s t u m t₁ u₁ r (apart_up k binary64 s.ld s.n)
+  unfolding apart_up
+  past_up_is {next} e i f u₀ M a = stood_as (rw (← a.step.done.form, ← a.here, ← e, ne_eqb next 1 i)) (f u₀ M a)
 
-pub starts : (ld n : ℕ) (u t : List Float) (from nbf : ℕ) → nbf ≡ Move.size_at binary64 ld n t from → Stands ld n u t u from nbf 0 0 (start ld n t from)
-unfolding on_factor declines_in
-starts ld n u t from nbf e = record { here = refl; nbf = e; step = record { done = record { form = refl; factor = refl }; swaps = refl; declined = refl }; kept = refl }
+  pub apart_up-is : m.block ≡ Parted → Takes s t u m t₁ u₁ r (apart_up k binary64 s.ld s.n) → Takes s t u m t₁ u₁ r (step_up k binary64 s.ld s.n)
+  unfolding step_up
+  apart_up-is e f u₀ M a = stood_as (rw (← a.nbf, e)) (f u₀ M a)
 
-module _ (ld n from to : ℕ) (t : List Float) where
-  pub stays-is : from ≡ to → start ld n t from ≡ Move.move_from binary64 ld n from to t
-  unfolding Move.move_from
-  stays-is e = rw (eq-eqb from to e)
+  pub block_up_is : eqb (number m.block) 3 ≡ false → Takes s t u m t₁ u₁ r (whole_up k binary64 s.ld s.n) → Takes s t u m t₁ u₁ r (step_up k binary64 s.ld s.n)
+  unfolding step_up
+  block_up_is e f u₀ M a = stood_as (rw (← a.nbf, e)) (f u₀ M a)
 
-  pub goes_down : (from ≡ to → ⊥) → from < to → (nbf nbl goal : ℕ) → nbf ≡ Move.size_at binary64 ld n t from → nbl ≡ Move.size_at binary64 ld n t to → goal ≡ Move.goal_down nbf nbl to
-      → Move.down_by n binary64 ld n goal (start ld n t from) ≡ Move.move_from binary64 ld n from to t
-  unfolding Move.move_from
-  goes_down d l nbf nbl goal a b g = rw (ne_eqb from to d, lt-ltb from to l, g, a, b)
+-- ---- the whole walk
+abbrev start : Shape → List Float → ℕ → Move.Moving
+start s t from = record { here = from; nbf = Move.size_at binary64 s.ld s.n t from; change = unchanged t; exchanges = [] }
 
-  pub goes_up : (from ≡ to → ⊥) → to ≤ from → Move.up_by n binary64 ld n to (start ld n t from) ≡ Move.move_from binary64 ld n from to t
-  unfolding Move.move_from
-  goes_up d l = rw (ne_eqb from to d, le-ltb from to l)
+module _ (k : Kind) (s : Shape) (from to : ℕ) (b : Block) {u t : List Float} (e : number b ≡ Move.size_at binary64 s.ld s.n t from) where
+  starts : Stands s u t u (record { here = from; block = b; counts = record { swaps = 0; declined = 0 } }) (start s t from)
+  unfolding on_factor declines_in
+  starts = record { here = refl; nbf = e; step = record { done = record { form = refl; factor = refl }; swaps = refl; declined = refl }; kept = refl }
 
-pub ended : {ld n : ℕ} {u t₁ u₁ : List Float} {h b s d : ℕ} {M : Move.Moving} → Stands ld n u t₁ u₁ h b s d M
-    → ◌≡◌ {A = Move.Moved} (record { answer = 0; landed = h; swaps = s; declined = d; form = t₁; factor = u₁ }) (Move.moved binary64 ld n u M)
+  pub stays-is : from ≡ to → Stood s u t u (Ok (record { here = from; block = b; counts = record { swaps = 0; declined = 0 } })) (walk_from k binary64 s.ld s.n from to t)
+  unfolding walk_from
+  stays-is q = rw (eq-eqb from to q) (record { stopped = refl; stands = starts })
+
+  pub goes_down : {t₁ u₁ : List Float} {r : Result Moving Moving} {nbf nbl goal : ℕ} → from < to → nbf ≡ number b → nbl ≡ Move.size_at binary64 s.ld s.n t to → goal ≡ Move.goal_down nbf nbl to
+      → Takes s t u (record { here = from; block = b; counts = record { swaps = 0; declined = 0 } }) t₁ u₁ r (walk_down k s.n binary64 s.ld s.n goal) → Stood s u t₁ u₁ r (walk_from k binary64 s.ld s.n from to t)
+  unfolding walk_from
+  goes_down l a c g f = let d : from ≡ to → ⊥ = λ q. omega arith in stood_as (rw (ne_eqb from to d, lt-ltb from to l, g, a, e, c)) (f u (start s t from) starts)
+
+  pub goes_up : {t₁ u₁ : List Float} {r : Result Moving Moving} → to < from
+      → Takes s t u (record { here = from; block = b; counts = record { swaps = 0; declined = 0 } }) t₁ u₁ r (walk_up k s.n binary64 s.ld s.n to) → Stood s u t₁ u₁ r (walk_from k binary64 s.ld s.n from to t)
+  unfolding walk_from
+  goes_up l f = let d : from ≡ to → ⊥ = λ q. omega arith in stood_as (rw (ne_eqb from to d, le-ltb from to (omega arith))) (f u (start s t from) starts)
+
+-- ---- the answers
+pub ended : {s : Shape} {u t₁ u₁ : List Float} {m : Moving} {M : Move.Moving} → Stands s u t₁ u₁ m M
+    → ◌≡◌ {A = Move.Moved} (record { answer = 0; landed = m.here; swaps = m.counts.swaps; declined = m.counts.declined; form = t₁; factor = u₁ }) (Move.moved binary64 s.ld s.n u M)
 ended a = rw (a.here, a.step.swaps, a.step.declined, a.step.done.form, a.step.done.factor)
 
 pub ended-exchange : {ld n : ℕ} {u t₁ u₁ : List Float} {s d : ℕ} {c : Change} → Step ld n u t₁ u₁ s d c
     → ◌≡◌ {A = Exchanged} (record { answer = 0; swaps = s; declined = d; form = t₁; factor = u₁ }) (exchanged binary64 ld n u c)
 ended-exchange a = rw (a.swaps, a.declined, a.done.form, a.done.factor)
+
+pub ended_move : {s : Shape} {n ld : ℕ} (from to : ℕ) {t u t₁ u₁ : List Float} {r : Result Moving Moving} → IsOf s n ld t → 0 ≡ Move.move_line binary64 ld n t u from to
+    → Stood s u t₁ u₁ r (walk (goes_on binary64 s.ld s.n) binary64 s.ld s.n from to t)
+    → (let m = either r in ◌≡◌ {A = Move.Moved} (record { answer = 0; landed = m.here; swaps = m.counts.swaps; declined = m.counts.declined; form = t₁; factor = u₁ }) (Move.move_call binary64 ld n t u from to))
+unfolding Move.move_call
+ended_move {s} from to {t} k l w =
+    let e : (walk (goes_on binary64 s.ld s.n) binary64 s.ld s.n from to t).moving ≡ Move.move binary64 s.ld s.n from to t = ap (λ (G : Stopping.Going). G.moving) (one-control binary64 s.ld s.n from to t) in
+    rw (← l, ← k.rows, ← k.stride) (ended (rw e at w.stands))

@@ -1,195 +1,249 @@
-// A move on its way: one exchange, and one step down or up.
-ghost use Rattle.std.specs.Prelude.{◌≡◌, ℕ, ◌+◌, ◌-◌, ◌≤◌, ◌<◌, List, Float};
+// A move on its way: one exchange of a kind, and one step down or up.
+ghost use Rattle.std.specs.Prelude.{◌≡◌, ℕ, ◌+◌, ◌-◌, ◌≤◌, ◌<◌, List, Float, MatchResult, IfOk};
 ghost use Rattle.std.specs.Float.{binary64};
 ghost use Rattle.model.specs.Move as Move;
-ghost use Rattle.form.specs.Run.{Sized, Beside, Rows};
-ghost use Rattle.schur.specs.Stands.{Takes, Way, Went, rows};
+ghost use Rattle.model.specs.Stopping as Stopping;
+ghost use Rattle.form.specs.Run.{Rows};
+ghost use Rattle.form.specs.Shaped.{Holds, Beside};
+ghost use Rattle.schur.specs.Kinds.{Made};
+ghost use Rattle.schur.specs.Stands.{Stands, Takes, Few, More, rows, number};
 
-use crate::exchange::exchange_straight;
-use form::blocks::{size_above, size_at, zero_below};
+use crate::counts::Counts;
+use form::shape::Shape;
 
-// The moved block's row, nbf (1 for one row, 2 for a 2-block, 3 for a 2-block that has split and
-// goes on as two rows), and the counts so far.
+// How a move makes its exchanges, and where it stops.
+pub trait Kind {
+    ghost kind: { ℕ → ℕ → Stopping.Kind };
+
+    // The exchange of the n1 rows from row j on with the n2 below them: Err where it has declined and the move
+    // stops at that.
+    fn exchange(
+        s: Shape,
+        t: &mut [f64],
+        u: &mut [f64],
+        j: usize,
+        n1: usize,
+        n2: usize,
+    ) -> Result<Counts, Counts>
+        requires { Holds s t.old × Beside s u.old × Rows s.n j n1 n2 }
+        ensures { Made (kind s.ld s.n) s j n1 n2 t.old u.old t.new u.new result };
+}
+
+// What is moved: one row, a 2-block, or the two rows of a 2-block that has split.
+#[derive(Clone, Copy, PartialEq, Eq)]
+pub(crate) enum Block {
+    One,
+    Two,
+    Parted,
+}
+
+impl Block {
+    // How many rows it has.
+    pub(crate) fn rows(self) -> usize
+        ensures { result ≡ rows self }
+    {
+        match self {
+            Block::One => 1,
+            Block::Two | Block::Parted => 2,
+        }
+    }
+
+    // The block that begins in row p.
+    pub(crate) fn at(s: Shape, t: &[f64], p: usize) -> Block
+        requires { Holds s t.now × (p < s.n) }
+        ensures { (number result ≡ Move.size_at binary64 s.ld s.n t.now p) × (rows result ≡ number result) × (p + rows result ≤ s.n) }
+    {
+        if s.size_at(t, p) == 1 {
+            Block::One
+        } else {
+            Block::Two
+        }
+    }
+}
+
+// The moved block's row, the block, and the counts so far.
 #[derive(Clone, Copy)]
 pub struct Moving {
     pub here: usize,
-    pub nbf: usize,
-    pub swaps: usize,
-    pub declined: usize,
+    pub(crate) block: Block,
+    pub counts: Counts,
 }
 
-// One exchange more.
-fn exchanging(
+impl Moving {
+    // Arrived in a row.
+    fn arrived(self, row: usize) -> Moving
+        ensures { result ≡ record self { here = row } }
+    {
+        Moving { here: row, ..self }
+    }
+
+    // Arrived in a row, where a 2-block may have split.
+    fn landed_whole(self, s: Shape, t: &[f64], row: usize) -> Moving
+        requires { Holds s t.now × (row + rows self.block ≤ s.n) }
+        ensures stands { (u₀ u : List Float) (M : Move.Moving) → Stands s u₀ t.now u self M → Stands s u₀ t.now u result (Move.landed_whole binary64 s.ld row M) }
+        ensures rows { (result.here ≡ row) × (rows result.block ≡ rows self.block) × (result.counts ≡ self.counts) }
+    {
+        if self.block == Block::Two && s.zero_below(t, row) {
+            return Moving {
+                here: row,
+                block: Block::Parted,
+                ..self
+            };
+        }
+        self.arrived(row)
+    }
+}
+
+// One exchange more: the row stays, and is moved on where the step ends.
+fn trying<K: Kind>(
+    s: Shape,
     t: &mut [f64],
     u: &mut [f64],
-    ld: usize,
-    n: usize,
     j: usize,
     n1: usize,
     n2: usize,
     m: Moving,
-) -> Moving
-    requires { Sized ld n t.old × Beside ld n u.old × Rows n j n1 n2 × (m.swaps ≤ 2000) × (m.declined ≤ 2000) }
-    ensures stands { Takes ld n t.old u.old m t.new u.new result (Move.exchanging binary64 ld n j n1 n2) }
-    ensures counts { (result.here ≡ m.here) × (result.nbf ≡ m.nbf) × (result.swaps ≤ m.swaps + 4) × (result.declined ≤ m.declined + 4) }
+) -> Result<Moving, Moving>
+    requires { Holds s t.old × Beside s u.old × Rows s.n j n1 n2 × Few 2000 m }
+    ensures stands { Takes s t.old u.old m t.new u.new result (Stopping.trying (K.kind s.ld s.n) j n1 n2) }
+    ensures counts { IfOk result (λ r. (r.here ≡ m.here) × More 4 m r) }
 {
-    let c = exchange_straight(&mut *t, &mut *u, ld, n, j, n1, n2);
-    Moving {
-        here: m.here,
-        nbf: m.nbf,
-        swaps: m.swaps + c.swaps,
-        declined: m.declined + c.declined,
-    }
-}
-
-// Arrived in a row.
-fn arrived(row: usize, m: Moving) -> Moving
-    ensures stands { (ld n : ℕ) (t u : List Float) → Takes ld n t u m t u result (Move.arrived row) }
-    ensures counts { (result.here ≡ row) × (result.nbf ≡ m.nbf) × (result.swaps ≡ m.swaps) × (result.declined ≡ m.declined) }
-{
-    Moving {
-        here: row,
-        nbf: m.nbf,
-        swaps: m.swaps,
-        declined: m.declined,
-    }
-}
-
-// Arrived in a row, where a 2-block may have split.
-fn landed_whole(t: &[f64], ld: usize, n: usize, row: usize, m: Moving) -> Moving
-    requires { Sized ld n t.now × (row + m.nbf ≤ n) × (1 ≤ m.nbf) × (m.nbf ≤ 2) }
-    ensures stands { (u : List Float) → Takes ld n t.now u m t.now u result (Move.landed_whole binary64 ld row) }
-    ensures counts { (result.here ≡ row) × Went 0 m.nbf m.swaps m.declined result.nbf result.swaps result.declined }
-{
-    let nbf = m.nbf;
-    if nbf == 2 {
-        if zero_below(t, ld, n, row) {
-            return Moving {
-                here: row,
-                nbf: 3,
-                swaps: m.swaps,
-                declined: m.declined,
-            };
-        }
-    }
-    Moving {
-        here: row,
-        nbf,
-        swaps: m.swaps,
-        declined: m.declined,
+    match K::exchange(s, t, u, j, n1, n2) {
+        Ok(c) => Ok(Moving {
+            counts: m.counts + c,
+            ..m
+        }),
+        Err(c) => Err(Moving {
+            counts: m.counts + c,
+            ..m
+        }),
     }
 }
 
 // One row or a 2-block, past the block below.
-fn down_whole(t: &mut [f64], u: &mut [f64], ld: usize, n: usize, m: Moving) -> Moving
-    requires { Sized ld n t.old × Beside ld n u.old × Way m.nbf m.swaps m.declined × (m.nbf ≤ 2) × (m.here + m.nbf + 1 ≤ n) }
-    ensures stands { Takes ld n t.old u.old m t.new u.new result (Move.down_whole binary64 ld n) }
-    ensures counts { (m.here < result.here) × (result.here + m.nbf ≤ n) × Went 4 m.nbf m.swaps m.declined result.nbf result.swaps result.declined }
+fn whole_down<K: Kind>(s: Shape, t: &mut [f64], u: &mut [f64], m: Moving) -> Result<Moving, Moving>
+    requires { Holds s t.old × Beside s u.old × Few 1000 m × (rows m.block ≡ number m.block) × (m.here + rows m.block < s.n) }
+    ensures stands { Takes s t.old u.old m t.new u.new result (Stopping.whole_down (K.kind s.ld s.n) binary64 s.ld s.n) }
+    ensures counts { IfOk result (λ r. (m.here < r.here) × (r.here + rows m.block ≤ s.n) × More 4 m r) }
 {
-    let here = m.here;
-    let nbf = m.nbf;
-    let next = size_at(&*t, ld, n, here + nbf);
-    let e = exchanging(&mut *t, &mut *u, ld, n, here, nbf, next, m);
-    landed_whole(&*t, ld, n, here + next, e)
+    let rows = m.block.rows();
+    let next = s.size_at(t, m.here + rows);
+    let e = trying::<K>(s, t, u, m.here, rows, next, m)?;
+    Ok(e.landed_whole(s, t, m.here + next))
 }
 
 // Past a 2-block that the lower row has passed, and that may have split at that.
-fn down_past_two(t: &mut [f64], u: &mut [f64], ld: usize, n: usize, m: Moving) -> Moving
-    requires { Sized ld n t.old × Beside ld n u.old × (m.here + 4 ≤ n) × (m.swaps ≤ 1100) × (m.declined ≤ 1100) }
-    ensures stands { Takes ld n t.old u.old m t.new u.new result (Move.down_past_two binary64 ld n) }
-    ensures counts { (result.here ≡ m.here + 2) × (result.nbf ≡ m.nbf) × (result.swaps ≤ m.swaps + 8) × (result.declined ≤ m.declined + 8) }
+fn past_two_down<K: Kind>(
+    s: Shape,
+    t: &mut [f64],
+    u: &mut [f64],
+    m: Moving,
+) -> Result<Moving, Moving>
+    requires { Holds s t.old × Beside s u.old × Few 1100 m × (m.here + 4 ≤ s.n) }
+    ensures stands { Takes s t.old u.old m t.new u.new result (Stopping.past_two_down (K.kind s.ld s.n) binary64 s.ld s.n) }
+    ensures counts { IfOk result (λ r. (r.here ≡ m.here + 2) × More 8 m r) }
 {
     let here = m.here;
-    if zero_below(&*t, ld, n, here + 1) {
-        let a = exchanging(&mut *t, &mut *u, ld, n, here, 1, 1, m);
-        let b = exchanging(&mut *t, &mut *u, ld, n, here + 1, 1, 1, a);
-        return arrived(here + 2, b);
+    if s.zero_below(t, here + 1) {
+        let a = trying::<K>(s, t, u, here, 1, 1, m)?;
+        let b = trying::<K>(s, t, u, here + 1, 1, 1, a)?;
+        return Ok(b.arrived(here + 2));
     }
-    let a = exchanging(&mut *t, &mut *u, ld, n, here, 1, 2, m);
-    arrived(here + 2, a)
+    let a = trying::<K>(s, t, u, here, 1, 2, m)?;
+    Ok(a.arrived(here + 2))
 }
 
 // Two rows, the lower first.
-fn down_apart(t: &mut [f64], u: &mut [f64], ld: usize, n: usize, m: Moving) -> Moving
-    requires { Sized ld n t.old × Beside ld n u.old × Way m.nbf m.swaps m.declined × (m.here + 3 ≤ n) }
-    ensures stands { Takes ld n t.old u.old m t.new u.new result (Move.down_apart binary64 ld n) }
-    ensures counts { (m.here < result.here) × (result.here + 2 ≤ n) × (result.nbf ≡ m.nbf) × (result.swaps ≤ m.swaps + 12) × (result.declined ≤ m.declined + 12) }
+fn apart_down<K: Kind>(s: Shape, t: &mut [f64], u: &mut [f64], m: Moving) -> Result<Moving, Moving>
+    requires { Holds s t.old × Beside s u.old × Few 1000 m × (m.here + 3 ≤ s.n) }
+    ensures stands { Takes s t.old u.old m t.new u.new result (Stopping.apart_down (K.kind s.ld s.n) binary64 s.ld s.n) }
+    ensures counts { IfOk result (λ r. (m.here < r.here) × (r.here + 2 ≤ s.n) × More 12 m r) }
 {
     let here = m.here;
-    let next = size_at(&*t, ld, n, here + 2);
-    let below = exchanging(&mut *t, &mut *u, ld, n, here + 1, 1, next, m);
+    let next = s.size_at(t, here + 2);
+    let below = trying::<K>(s, t, u, here + 1, 1, next, m)?;
     if next == 1 {
-        let a = exchanging(&mut *t, &mut *u, ld, n, here, 1, 1, below);
-        return arrived(here + 1, a);
+        let a = trying::<K>(s, t, u, here, 1, 1, below)?;
+        return Ok(a.arrived(here + 1));
     }
-    down_past_two(&mut *t, &mut *u, ld, n, below)
+    past_two_down::<K>(s, t, u, below)
 }
 
 // One step down.
-pub fn down_step(t: &mut [f64], u: &mut [f64], ld: usize, n: usize, m: Moving) -> Moving
-    requires { Sized ld n t.old × Beside ld n u.old × Way m.nbf m.swaps m.declined × (m.here + rows m.nbf + 1 ≤ n) }
-    ensures stands { Takes ld n t.old u.old m t.new u.new result (Move.down_step binary64 ld n) }
-    ensures counts { (m.here < result.here) × (result.here + rows m.nbf ≤ n) × Went 12 m.nbf m.swaps m.declined result.nbf result.swaps result.declined }
+pub(crate) fn step_down<K: Kind>(
+    s: Shape,
+    t: &mut [f64],
+    u: &mut [f64],
+    m: Moving,
+) -> Result<Moving, Moving>
+    requires { Holds s t.old × Beside s u.old × Few 1000 m × (m.here + rows m.block < s.n) }
+    ensures stands { Takes s t.old u.old m t.new u.new result (Stopping.step_down (K.kind s.ld s.n) binary64 s.ld s.n) }
+    ensures counts { IfOk result (λ r. (m.here < r.here) × (r.here + rows m.block ≤ s.n) × More 12 m r) }
 {
-    if m.nbf == 3 {
-        return down_apart(&mut *t, &mut *u, ld, n, m);
+    match m.block {
+        Block::Parted => apart_down::<K>(s, t, u, m),
+        Block::One | Block::Two => whole_down::<K>(s, t, u, m),
     }
-    down_whole(&mut *t, &mut *u, ld, n, m)
 }
 
 // One row or a 2-block, past the block above.
-fn up_whole(t: &mut [f64], u: &mut [f64], ld: usize, n: usize, m: Moving) -> Moving
-    requires { Sized ld n t.old × Beside ld n u.old × Way m.nbf m.swaps m.declined × (m.nbf ≤ 2) × (0 < m.here) × (m.here + m.nbf ≤ n) }
-    ensures stands { Takes ld n t.old u.old m t.new u.new result (Move.up_whole binary64 ld n) }
-    ensures counts { (result.here < m.here) × Went 4 m.nbf m.swaps m.declined result.nbf result.swaps result.declined }
+fn whole_up<K: Kind>(s: Shape, t: &mut [f64], u: &mut [f64], m: Moving) -> Result<Moving, Moving>
+    requires { Holds s t.old × Beside s u.old × Few 1000 m × (rows m.block ≡ number m.block) × (0 < m.here) × (m.here + rows m.block ≤ s.n) }
+    ensures stands { Takes s t.old u.old m t.new u.new result (Stopping.whole_up (K.kind s.ld s.n) binary64 s.ld s.n) }
+    ensures counts { IfOk result (λ r. (r.here < m.here) × More 4 m r) }
 {
-    let here = m.here;
-    let nbf = m.nbf;
-    let next = size_above(&*t, ld, n, here);
-    let e = exchanging(&mut *t, &mut *u, ld, n, here - next, next, nbf, m);
-    landed_whole(&*t, ld, n, here - next, e)
+    let rows = m.block.rows();
+    let next = s.size_above(t, m.here);
+    let to = m.here - next;
+    let e = trying::<K>(s, t, u, to, next, rows, m)?;
+    Ok(e.landed_whole(s, t, to))
 }
 
 // Past a 2-block that the upper row has passed, and that may have split at that.
-fn up_past_two(t: &mut [f64], u: &mut [f64], ld: usize, n: usize, m: Moving) -> Moving
-    requires { Sized ld n t.old × Beside ld n u.old × (2 ≤ m.here) × (m.here + 2 ≤ n) × (m.swaps ≤ 1100) × (m.declined ≤ 1100) }
-    ensures stands { Takes ld n t.old u.old m t.new u.new result (Move.up_past_two binary64 ld n) }
-    ensures counts { (result.here ≡ m.here - 2) × (result.nbf ≡ m.nbf) × (result.swaps ≤ m.swaps + 8) × (result.declined ≤ m.declined + 8) }
+fn past_two_up<K: Kind>(s: Shape, t: &mut [f64], u: &mut [f64], m: Moving) -> Result<Moving, Moving>
+    requires { Holds s t.old × Beside s u.old × Few 1100 m × (2 ≤ m.here) × (m.here + 2 ≤ s.n) }
+    ensures stands { Takes s t.old u.old m t.new u.new result (Stopping.past_two_up (K.kind s.ld s.n) binary64 s.ld s.n) }
+    ensures counts { IfOk result (λ r. (r.here ≡ m.here - 2) × More 8 m r) }
 {
     let here = m.here;
-    if zero_below(&*t, ld, n, here - 1) {
-        let a = exchanging(&mut *t, &mut *u, ld, n, here, 1, 1, m);
-        let b = exchanging(&mut *t, &mut *u, ld, n, here - 1, 1, 1, a);
-        return arrived(here - 2, b);
+    if s.zero_below(t, here - 1) {
+        let a = trying::<K>(s, t, u, here, 1, 1, m)?;
+        let b = trying::<K>(s, t, u, here - 1, 1, 1, a)?;
+        return Ok(b.arrived(here - 2));
     }
-    let a = exchanging(&mut *t, &mut *u, ld, n, here - 1, 2, 1, m);
-    arrived(here - 2, a)
+    let a = trying::<K>(s, t, u, here - 1, 2, 1, m)?;
+    Ok(a.arrived(here - 2))
 }
 
 // Two rows, the upper first.
-fn up_apart(t: &mut [f64], u: &mut [f64], ld: usize, n: usize, m: Moving) -> Moving
-    requires { Sized ld n t.old × Beside ld n u.old × Way m.nbf m.swaps m.declined × (0 < m.here) × (m.here + 2 ≤ n) }
-    ensures stands { Takes ld n t.old u.old m t.new u.new result (Move.up_apart binary64 ld n) }
-    ensures counts { (result.here < m.here) × (result.nbf ≡ m.nbf) × (result.swaps ≤ m.swaps + 12) × (result.declined ≤ m.declined + 12) }
+fn apart_up<K: Kind>(s: Shape, t: &mut [f64], u: &mut [f64], m: Moving) -> Result<Moving, Moving>
+    requires { Holds s t.old × Beside s u.old × Few 1000 m × (0 < m.here) × (m.here + 2 ≤ s.n) }
+    ensures stands { Takes s t.old u.old m t.new u.new result (Stopping.apart_up (K.kind s.ld s.n) binary64 s.ld s.n) }
+    ensures counts { IfOk result (λ r. (r.here < m.here) × More 12 m r) }
 {
     let here = m.here;
-    let next = size_above(&*t, ld, n, here);
-    let above = exchanging(&mut *t, &mut *u, ld, n, here - next, next, 1, m);
+    let next = s.size_above(t, here);
+    let above = trying::<K>(s, t, u, here - next, next, 1, m)?;
     if next == 1 {
-        let a = exchanging(&mut *t, &mut *u, ld, n, here, 1, 1, above);
-        return arrived(here - 1, a);
+        let a = trying::<K>(s, t, u, here, 1, 1, above)?;
+        return Ok(a.arrived(here - 1));
     }
-    up_past_two(&mut *t, &mut *u, ld, n, above)
+    past_two_up::<K>(s, t, u, above)
 }
 
 // One step up.
-pub fn up_step(t: &mut [f64], u: &mut [f64], ld: usize, n: usize, m: Moving) -> Moving
-    requires { Sized ld n t.old × Beside ld n u.old × Way m.nbf m.swaps m.declined × (0 < m.here) × (m.here + rows m.nbf ≤ n) }
-    ensures stands { Takes ld n t.old u.old m t.new u.new result (Move.up_step binary64 ld n) }
-    ensures counts { (result.here < m.here) × Went 12 m.nbf m.swaps m.declined result.nbf result.swaps result.declined }
+pub(crate) fn step_up<K: Kind>(
+    s: Shape,
+    t: &mut [f64],
+    u: &mut [f64],
+    m: Moving,
+) -> Result<Moving, Moving>
+    requires { Holds s t.old × Beside s u.old × Few 1000 m × (0 < m.here) × (m.here + rows m.block ≤ s.n) }
+    ensures stands { Takes s t.old u.old m t.new u.new result (Stopping.step_up (K.kind s.ld s.n) binary64 s.ld s.n) }
+    ensures counts { IfOk result (λ r. (r.here < m.here) × More 12 m r) }
 {
-    if m.nbf == 3 {
-        return up_apart(&mut *t, &mut *u, ld, n, m);
+    match m.block {
+        Block::Parted => apart_up::<K>(s, t, u, m),
+        Block::One | Block::Two => whole_up::<K>(s, t, u, m),
     }
-    up_whole(&mut *t, &mut *u, ld, n, m)
 }

@@ -1,3 +1,2 @@
-pub mod Ways
-pub mod Loops
+pub mod Ended
 pub mod Handed

@@ -1,5 +1,4 @@
 // Offered: a move that stops at the first exchange whose test fails, `reorder::reorder_schur_stopping`.
 #![tactic(auto)]
 
-mod moving;
 pub mod reorder;

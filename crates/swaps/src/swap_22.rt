@@ -1,43 +1,43 @@
 // A 2-block against a 2-block, tried on a copy of the window first.
-ghost use Rattle.std.specs.Prelude.{◌≡◌, Bool, cond, ◌+◌, ◌≤◌};
+ghost use Rattle.std.specs.Prelude.{◌≡◌, Bool, cond, ◌+◌, ◌<◌, ◌≤◌};
 ghost use Rattle.std.specs.Float.{binary64};
 ghost use Rattle.model.specs.Columns as Columns;
 ghost use Rattle.model.specs.Swaps as Swaps;
 ghost use Rattle.sylvester.specs.View.{sylvester};
 ghost use Rattle.swaps.specs.View.{quad, reflection4, column, window};
-ghost use Rattle.form.specs.Run.{Sized, Beside};
+ghost use Rattle.form.specs.Shaped.{Holds, Beside};
 ghost use Rattle.swaps.specs.Done.{Done};
 ghost use Rattle.swaps.specs.Forms.{form22};
 
 use crate::kernels::{Quad, Reflectors4, reflect_quad, reflect4};
 use crate::operations::{reflect4_factor, reflect4_form};
 use arith::real::{EPS, MIN_POSITIVE, abs, fmax, recip};
-use form::places::{get, put};
-use linalg::householder::make_householder_in_place;
+use form::shape::Shape;
+use linalg::householder::make_householder;
 use sylvester::lasy2::{Sylvester, lasy2};
 
 // Rows j to j + 3 of a column.
-fn window_column(t: &[f64], ld: usize, n: usize, j: usize, col: usize) -> [f64; 4]
-    requires { Sized ld n t.now × (j + 4 ≤ n) × (col + 1 ≤ n) }
-    ensures { column result ≡ Swaps.window_column ld t.now j col }
+fn window_column(s: Shape, t: &[f64], j: usize, col: usize) -> [f64; 4]
+    requires { Holds s t.now × (j + 4 ≤ s.n) × (col < s.n) }
+    ensures { column result ≡ Swaps.window_column s.ld t.now j col }
 {
     [
-        get(t, ld, n, j, col),
-        get(t, ld, n, j + 1, col),
-        get(t, ld, n, j + 2, col),
-        get(t, ld, n, j + 3, col),
+        s.get(t, j, col),
+        s.get(t, j + 1, col),
+        s.get(t, j + 2, col),
+        s.get(t, j + 3, col),
     ]
 }
 
 // The 4 by 4 window at row j, column after column.
-fn window_at(t: &[f64], ld: usize, n: usize, j: usize) -> [[f64; 4]; 4]
-    requires { Sized ld n t.now × (j + 4 ≤ n) }
-    ensures { window result ≡ Swaps.window_at ld t.now j }
+fn window_at(s: Shape, t: &[f64], j: usize) -> [[f64; 4]; 4]
+    requires { Holds s t.now × (j + 4 ≤ s.n) }
+    ensures { window result ≡ Swaps.window_at s.ld t.now j }
 {
-    let c0 = window_column(t, ld, n, j, j);
-    let c1 = window_column(t, ld, n, j, j + 1);
-    let c2 = window_column(t, ld, n, j, j + 2);
-    let c3 = window_column(t, ld, n, j, j + 3);
+    let c0 = window_column(s, t, j, j);
+    let c1 = window_column(s, t, j, j + 1);
+    let c2 = window_column(s, t, j, j + 2);
+    let c3 = window_column(s, t, j, j + 3);
     [c0, c1, c2, c3]
 }
 
@@ -138,7 +138,7 @@ fn reflectors_4(x: Sylvester) -> Reflectors4
     ensures { reflection4 result ≡ Swaps.reflectors4 binary64 (sylvester x) }
 {
     let mut tail = [x.x10, -x.scale, 0.0];
-    let h = make_householder_in_place(x.x00, &mut tail);
+    let h = make_householder(x.x00, &mut tail);
     let tau1 = recip(h.tau);
     let v11 = tail[0];
     let v12 = tail[1];
@@ -151,7 +151,7 @@ fn reflectors_4(x: Sylvester) -> Reflectors4
     };
     let c = reflect_quad(tau1, v11, v12, v13, second);
     let mut tail2 = [c.x2, c.x3];
-    let g = make_householder_in_place(c.x1, &mut tail2);
+    let g = make_householder(c.x1, &mut tail2);
     Reflectors4 {
         tau1,
         v11,
@@ -171,29 +171,29 @@ fn declines(v: Reflectors4, w: [[f64; 4]; 4]) -> bool
 }
 
 // The form after the exchange of rows j and j + 1 with the two below them.
-fn form_22(t: &mut [f64], ld: usize, n: usize, j: usize, v: Reflectors4)
-    requires { Sized ld n t.old × (j + 4 ≤ n) }
-    ensures { t.new ≡ form22 ld n j (reflection4 v) t.old }
+fn form_22(s: Shape, t: &mut [f64], j: usize, v: Reflectors4)
+    requires { Holds s t.old × (j + 4 ≤ s.n) }
+    ensures { t.new ≡ form22 s.ld s.n j (reflection4 v) t.old }
 {
-    reflect4_form(&mut *t, ld, n, v, j, j + 1, j + 2, j + 3, j, j + 4);
-    put(&mut *t, ld, n, j + 2, j, 0.0);
-    put(&mut *t, ld, n, j + 2, j + 1, 0.0);
-    put(&mut *t, ld, n, j + 3, j, 0.0);
-    put(&mut *t, ld, n, j + 3, j + 1, 0.0);
+    reflect4_form(s, t, v, j, j + 1, j + 2, j + 3, j, j + 4);
+    s.put(t, j + 2, j, 0.0);
+    s.put(t, j + 2, j + 1, 0.0);
+    s.put(t, j + 3, j, 0.0);
+    s.put(t, j + 3, j + 1, 0.0);
 }
 
-// The 2-block in rows j and j + 1 exchanged with the one below it: 0, or 1 for a decline, which
-// touches neither form nor factor.
-pub fn schur_swap_22(t: &mut [f64], u: &mut [f64], ld: usize, n: usize, j: usize) -> usize
-    requires { Sized ld n t.old × Beside ld n u.old × (j + 4 ≤ n) }
-    ensures { Done ld n u.old t.new u.new (Swaps.swap22 binary64 ld n j t.old) × (result ≡ Swaps.declined_of (Swaps.swap22 binary64 ld n j t.old)) × (result ≤ 1) }
+// The 2-block in rows j and j + 1 exchanged with the one below it: true for a decline, which touches
+// neither form nor factor.
+pub fn schur_swap_22(s: Shape, t: &mut [f64], u: &mut [f64], j: usize) -> bool
+    requires { Holds s t.old × Beside s u.old × (j + 4 ≤ s.n) }
+    ensures { Done s.ld s.n u.old t.new u.new (Swaps.swap22 binary64 s.ld s.n j t.old) × (Swaps.declined_of (Swaps.swap22 binary64 s.ld s.n j t.old) ≡ cond result 1 0) }
 {
-    let w = window_at(&*t, ld, n, j);
+    let w = window_at(s, t, j);
     let v = reflectors_4(solution_of(w));
     if declines(v, w) {
-        return 1;
+        return true;
     }
-    form_22(&mut *t, ld, n, j, v);
-    reflect4_factor(&mut *u, ld, n, v, j, j + 1, j + 2, j + 3);
-    0
+    form_22(s, t, j, v);
+    reflect4_factor(s, u, v, j, j + 1, j + 2, j + 3);
+    false
 }

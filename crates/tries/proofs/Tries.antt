@@ -78,13 +78,19 @@ single ld n j t {u} {t₁} {u₁} a e = passed ld n j 1 1 t refl a e (no_block l
 
 -- ---- two 2-blocks: 01's swap makes the test itself
 
-pair-fails : (ld n j : ℕ) (t : List Float) → eqb (declined_of (swap22 binary64 ld n j t)) 1 ≡ fails22 binary64 ld t j
+declined-pair : (ld n j : ℕ) (t : List Float) → declined_of (swap22 binary64 ld n j t) ≡ cond (fails22 binary64 ld t j) 1 0
 unfolding swap22 swap22_by fails22 declines_in
-pair-fails ld n j t = go (fails22 binary64 ld t j) refl
+declined-pair ld n j t = go (fails22 binary64 ld t j) refl
   where
-    go : (b : Bool) → fails22 binary64 ld t j ≡ b → eqb (declined_of (swap22 binary64 ld n j t)) 1 ≡ b
+    go : (b : Bool) → fails22 binary64 ld t j ≡ b → declined_of (swap22 binary64 ld n j t) ≡ cond b 1 0
     go true h = rw h refl
     go false h = rw h refl
+
+told : (k : ℕ) (a b : Bool) → k ≡ cond a 1 0 → k ≡ cond b 1 0 → b ≡ a
+told k true true d e = refl
+told k false false d e = refl
+told k true false d e = absurd (omega arith)
+told k false true d e = absurd (omega arith)
 
 pair_same : (ld n j : ℕ) (t : List Float) → swap22 binary64 ld n j t ≡ cond (fails22 binary64 ld t j) (declining j 2 2 t) (swap22 binary64 ld n j t)
 unfolding swap22 fails22
@@ -94,9 +100,9 @@ pair_same ld n j t = go (fails22 binary64 ld t j) refl
     go true h = rw h refl
     go false h = refl
 
-pub pair : (ld n j : ℕ) (t : List Float) {u t₁ u₁ : List Float} {r : ℕ}
+pub pair : (ld n j : ℕ) (t : List Float) {u t₁ u₁ : List Float} {r : Bool}
     → Done ld n u t₁ u₁ (swap22 binary64 ld n j t)
-    → r ≡ declined_of (swap22 binary64 ld n j t)
-    → Done ld n u t₁ u₁ (tried_swap ld n j 2 2 t) × (eqb r 1 ≡ test_fails binary64 ld t j 2 2)
+    → declined_of (swap22 binary64 ld n j t) ≡ cond r 1 0
+    → Done ld n u t₁ u₁ (tried_swap ld n j 2 2 t) × (r ≡ test_fails binary64 ld t j 2 2)
 unfolding test_fails swap_of
-pair ld n j t {u} {t₁} {u₁} a e = (subst (λ (c : Change). Done ld n u t₁ u₁ c) (pair_same ld n j t) a, rw e (pair-fails ld n j t))
+pair ld n j t {u} {t₁} {u₁} {r} a e = (subst (λ (c : Change). Done ld n u t₁ u₁ c) (pair_same ld n j t) a, told _ (fails22 binary64 ld t j) r (declined-pair ld n j t) e)

@@ -3,9 +3,10 @@ ghost use Rattle.std.specs.Prelude.{◌≡◌, ◌+◌, ◌≤◌};
 ghost use Rattle.std.specs.Float.{binary64};
 ghost use Rattle.model.specs.Stopping as Stopping;
 ghost use Rattle.schur22.specs.View.{block};
-ghost use Rattle.form.specs.Run.{Sized, Beside};
+ghost use Rattle.form.specs.Shaped.{Holds, Beside};
 ghost use Rattle.swaps.specs.Done.{Done};
 
+use form::shape::Shape;
 use linalg::jacobi::JacobiRotation;
 use schur22::lahqr_schur22::Block;
 use swaps::operations::rotate_factor;
@@ -29,15 +30,15 @@ fn exchanged_b(x: Block) -> Block
 }
 
 // The rows from row j on so standardised if there are two.
-pub fn standardise_also(t: &mut [f64], u: &mut [f64], ld: usize, n: usize, size: usize, j: usize)
-    requires { Sized ld n t.old × Beside ld n u.old × (j + size ≤ n) }
-    ensures { Done ld n u.old t.new u.new (Stopping.standardise_also binary64 ld n size j t.old) }
+pub fn standardise_also(s: Shape, t: &mut [f64], u: &mut [f64], size: usize, j: usize)
+    requires { Holds s t.old × Beside s u.old × (j + size ≤ s.n) }
+    ensures { Done s.ld s.n u.old t.new u.new (Stopping.standardise_also binary64 s.ld s.n size j t.old) }
 {
     if size != 2 {
         return;
     }
-    let b = exchanged_b(standard_block(&*t, ld, n, j));
-    standard_form(&mut *t, ld, n, j, b);
+    let b = exchanged_b(standard_block(s, t, j));
+    standard_form(s, t, j, b);
     let rot = JacobiRotation { c: b.cs, s: b.sn };
-    rotate_factor(&mut *u, ld, n, rot, j, j + 1);
+    rotate_factor(s, u, rot, j, j + 1);
 }

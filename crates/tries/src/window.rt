@@ -6,33 +6,29 @@ ghost use Rattle.model.specs.Arith as Arith;
 ghost use Rattle.model.specs.Columns as Columns;
 ghost use Rattle.model.specs.Stopping as Stopping;
 ghost use Rattle.swaps.specs.View.{reflection3};
-ghost use Rattle.form.specs.Run.{Sized};
+ghost use Rattle.form.specs.Shaped.{Holds};
 ghost use Rattle.tries.specs.View.{column3, window3};
 
 use arith::real::{EPS, MIN_POSITIVE, abs, fmax};
-use form::places::get;
+use form::shape::Shape;
 use swaps::kernels::{Reflectors3, Triple, reflect3};
 
 // Rows p, q and r of a column.
-fn column_of(t: &[f64], ld: usize, n: usize, p: usize, q: usize, r: usize, col: usize) -> [f64; 3]
-    requires { Sized ld n t.now × (p < n) × (q < n) × (r < n) × (col < n) }
-    ensures { column3 result ≡ Stopping.triple_in ld t.now p q r col }
+fn column_of(s: Shape, t: &[f64], p: usize, q: usize, r: usize, col: usize) -> [f64; 3]
+    requires { Holds s t.now × (p < s.n) × (q < s.n) × (r < s.n) × (col < s.n) }
+    ensures { column3 result ≡ Stopping.triple_in s.ld t.now p q r col }
 {
-    [
-        get(t, ld, n, p, col),
-        get(t, ld, n, q, col),
-        get(t, ld, n, r, col),
-    ]
+    [s.get(t, p, col), s.get(t, q, col), s.get(t, r, col)]
 }
 
 // Rows and columns p, q and r, in this order.
-pub fn window_of(t: &[f64], ld: usize, n: usize, p: usize, q: usize, r: usize) -> [[f64; 3]; 3]
-    requires { Sized ld n t.now × (p < n) × (q < n) × (r < n) }
-    ensures { window3 result ≡ Stopping.window_of ld t.now p q r }
+pub fn window_of(s: Shape, t: &[f64], p: usize, q: usize, r: usize) -> [[f64; 3]; 3]
+    requires { Holds s t.now × (p < s.n) × (q < s.n) × (r < s.n) }
+    ensures { window3 result ≡ Stopping.window_of s.ld t.now p q r }
 {
-    let c0 = column_of(t, ld, n, p, q, r, p);
-    let c1 = column_of(t, ld, n, p, q, r, q);
-    let c2 = column_of(t, ld, n, p, q, r, r);
+    let c0 = column_of(s, t, p, q, r, p);
+    let c1 = column_of(s, t, p, q, r, q);
+    let c2 = column_of(s, t, p, q, r, r);
     [c0, c1, c2]
 }
 

@@ -1,6 +1,6 @@
 -- `schur::exchange::exchange_straight` meets its contract. Assumes nothing.
-use mathlib.Core.Path.{◌≡◌}
 use Prim.Native.Nat.{ℕ, ◌+◌}
+use mathlib.Core.Path.{◌≡◌}
 use native.Mathlib.Omega.{arith}
 use lib.Dec.{lit≤}
 use Rattle.form.specs.Run.{Rows}
@@ -17,4 +17,4 @@ pub returns-then-n1-n2-eq2 : goal.returns-then-n1-n2-eq2
 returns-then-n1-n2-eq2 c =
     let x = c.schur_swap_11 in
     let r = c.requires.2 in
-    rw (first r c.if-n1-n2-eq2.true, second r c.if-n1-n2-eq2.true) (single_step _ _ _ _ x.ensures x.auto.u, lit≤ tt, lit≤ tt)
+    rw (first r c.if-n1-n2-eq2.true, second r c.if-n1-n2-eq2.true, c.of_one.ensures) (single_step _ _ _ _ x.ensures x.auto.u, lit≤ tt, lit≤ tt)

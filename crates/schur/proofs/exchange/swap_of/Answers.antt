@@ -1,27 +1,25 @@
 -- `schur::exchange::swap_of` meets its contract. Assumes nothing.
-use Rattle.laws_exchange.proofs.Counts.{pair-counts}
-use Rattle.model.specs.Swaps.{declines_in, swap_of, swap11, swap12, swap21}
 use mathlib.Core.Path.{refl, sym}
+use Prim.Native.Nat.{◌≤◌}
+use mathlib.Core.Bool.{Bool, true, false, cond}
 use lib.Dec.{lit≤}
 use borrow.Author.Tests.{eq-eqb, ne_eqb}
+use Rattle.laws_exchange.proofs.Counts.{pair-counts}
+use Rattle.model.specs.Swaps.{declines_in, swap_of, swap11, swap12, swap21}
 use Rattle.schur.proofs.exchange.swap_of.Goals as goal
+use Rattle.schur.proofs.exchange.swap_of.Goals.{in-1-eq1, in-1-default, in_default-eq1, in_default}
 
-pub returns-then-n2-eq1 : goal.returns-then-n2-eq1
-unfolding swap_of swap11 declines_in
-returns-then-n2-eq1 c =
-    rw (eq-eqb _ _ c.if-n1-eq1.true, eq-eqb _ _ c.if-n2-eq1.true) (record { done = c.schur_swap_11.ensures; swaps = refl; declined = refl }, refl, lit≤ tt)
-
-pub returns-then-n1-eq1 : goal.returns-then-n1-eq1
-unfolding swap_of swap12 declines_in
-returns-then-n1-eq1 c =
-    rw (eq-eqb _ _ c.if-n1-eq1.true, ne_eqb _ _ c.if-n2-eq1.false) (record { done = c.schur_swap_12.ensures; swaps = refl; declined = refl }, refl, lit≤ tt)
-
-pub returns-then-n2-eq1-2 : goal.returns-then-n2-eq1-2
-unfolding swap_of swap21 declines_in
-returns-then-n2-eq1-2 c =
-    rw (ne_eqb _ _ c.if-n1-eq1.false, eq-eqb _ _ c.if-n2-eq1-2.true) (record { done = c.schur_swap_21.ensures; swaps = refl; declined = refl }, refl, lit≤ tt)
+once : (b : Bool) → cond b 1 0 ≤ 1
+once true = lit≤ tt
+once false = lit≤ tt
 
 pub returns : goal.returns
-unfolding swap_of declines_in
+unfolding swap_of swap11 swap12 swap21 declines_in
 returns c =
-    rw (ne_eqb _ _ c.if-n1-eq1.false, ne_eqb _ _ c.if-n2-eq1-2.false) (record { done = c.schur_swap_22-declined.ensures.0; swaps = sym (pair-counts _ _ _ _ _); declined = c.schur_swap_22-declined.ensures.1 }, refl, c.schur_swap_22-declined.ensures.2)
+    rw c.of_one.ensures
+    (elim c.match-n1.branch [
+      | in-1-eq1 w ↦ rw (w.t-is, w.u-is, w.declined-is, w.in-1-eq1.is-0, w.in-1-eq1.is-1) (record { done = w.schur_swap_11.ensures; swaps = refl; declined = refl }, refl, lit≤ tt)
+      | in-1-default w ↦ rw (w.t-is, w.u-is, w.declined-is, w.in-1-default.is-0, ne_eqb _ _ w.in-1-default.is-1.1) (record { done = w.schur_swap_12.ensures; swaps = refl; declined = refl }, refl, lit≤ tt)
+      | in_default-eq1 w ↦ rw (w.t-is, w.u-is, w.declined-is, ne_eqb _ _ w.in_default-eq1.is-0.1, w.in_default-eq1.is-1) (record { done = w.schur_swap_21.ensures; swaps = refl; declined = refl }, refl, lit≤ tt)
+      | in_default w ↦ let x = w.schur_swap_22-declined.ensures in rw (w.t-is, w.u-is, w.declined-is, ne_eqb _ _ w.in_default.is-0.1, ne_eqb _ _ w.in_default.is-1.1) (record { done = x.0; swaps = sym (pair-counts _ _ _ _ _); declined = sym x.1 }, refl, once _)
+    ])

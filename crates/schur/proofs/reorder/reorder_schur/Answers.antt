@@ -1,30 +1,20 @@
 -- `schur::reorder::reorder_schur` meets its contract. Assumes nothing.
-use native.Mathlib.Nat.{lt_of_le_of_lt}
-use Rattle.model.specs.Move.{move_call, move}
-use Rattle.schur.proofs.Ways.{ended}
-use Rattle.form.proofs.Accepted.{move-accepted}
-use borrow.Author.Tests.{ne_eqb}
-use mathlib.Core.Path.{sym, ◌∙◌}
+use mathlib.Core.Path.{◌≡◌}
+use Rattle.std.proofs.Common.{rules, Err}
+use Rattle.model.specs.Move.{move_call}
+use Rattle.refusal.proofs.Told.{told}
+use Rattle.schur.proofs.Ways.{ended_move}
 use Rattle.schur.proofs.reorder.reorder_schur.Goals as goal
 
-pub returns-then-line-ne0 : goal.returns-then-line-ne0
+pub returns-in_err-s : goal.returns-in_err-s
 unfolding move_call
-returns-then-line-ne0 c =
-    rw (← c.move_line-line.ensures, ne_eqb _ _ c.if-line-ne0.true)
+returns-in_err-s c =
+    let e = c.in_err-s.field-0.0 in
+    let x : c.from_residual.result ≡ Err e = search rules in
+    rw (x, ← c.in_err-s.ensures.line, told e)
 
-pub first_row-a-requires : goal.first_row-a-requires
-first_row-a-requires c =
-    let q = c.args in let z = move-accepted q.ld q.n q.t.now q.u.now q.from q.to (sym c.move_line-line.ensures ∙ c.if-line-ne0.false) in (z.0, z.2)
+pub returns-in-Ok : goal.returns-in-Ok
+returns-in-Ok c = let k = c.in_ok-s.ensures in ended_move _ _ k.shape.0 k.line c.in-Ok.ensures
 
-pub first_row-b-requires : goal.first_row-b-requires
-first_row-b-requires c =
-    let q = c.args in let z = move-accepted q.ld q.n q.t.now q.u.now q.from q.to (sym c.move_line-line.ensures ∙ c.if-line-ne0.false) in (z.0, z.3)
-
-pub move_from-m-requires : goal.move_from-m-requires
-move_from-m-requires c =
-    let q = c.args in let z = move-accepted q.ld q.n q.t.now q.u.now q.from q.to (sym c.move_line-line.ensures ∙ c.if-line-ne0.false) in (z.0, z.1, lt_of_le_of_lt c.first_row-a.ensures.1 z.2, lt_of_le_of_lt c.first_row-b.ensures.1 z.3)
-
-pub returns : goal.returns
-unfolding move_call move
-returns c =
-    rw (← c.move_line-line.ensures, c.if-line-ne0.false, ← c.first_row-a.ensures.0, ← c.first_row-b.ensures.0) (ended c.move_from-m.ensures)
+pub returns-in-Ok-2 : goal.returns-in-Ok-2
+returns-in-Ok-2 c = let k = c.in_ok-s.ensures in ended_move _ _ k.shape.0 k.line c.in-Ok.ensures

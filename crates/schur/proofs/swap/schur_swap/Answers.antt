@@ -1,21 +1,20 @@
 -- `schur::swap::schur_swap` meets its contract. Assumes nothing.
+use mathlib.Core.Path.{◌≡◌}
+use Rattle.std.proofs.Common.{rules, Err}
 use Rattle.model.specs.Exchange.{exchange_call}
+use Rattle.refusal.proofs.Told.{told}
 use Rattle.schur.proofs.Ways.{ended-exchange}
-use Rattle.form.proofs.Accepted.{exchange-accepted}
-use borrow.Author.Tests.{ne_eqb}
-use mathlib.Core.Path.{sym, ◌∙◌}
 use Rattle.schur.proofs.swap.schur_swap.Goals as goal
 
-pub returns-then-line-ne0 : goal.returns-then-line-ne0
+pub returns-in_err-s : goal.returns-in_err-s
 unfolding exchange_call
-returns-then-line-ne0 c =
-    rw (← c.exchange_line-line.ensures, ne_eqb _ _ c.if-line-ne0.true)
-
-pub exchange-c-requires : goal.exchange-c-requires
-exchange-c-requires c =
-    let q = c.args in exchange-accepted q.ld q.n q.t.now q.u.now q.j0 q.n1 q.n2 (sym c.exchange_line-line.ensures ∙ c.if-line-ne0.false)
+returns-in_err-s c =
+    let e = c.in_err-s.field-0.0 in
+    let x : c.from_residual.result ≡ Err e = search rules in
+    rw (x, ← c.in_err-s.ensures.line, told e)
 
 pub returns : goal.returns
 unfolding exchange_call
 returns c =
-    rw (← c.exchange_line-line.ensures, c.if-line-ne0.false) (ended-exchange c.exchange-c.ensures.0)
+    let k = c.in_ok-s.ensures in
+    rw (← k.line, ← k.shape.0.rows, ← k.shape.0.stride) (ended-exchange c.exchange.ensures.0)

@@ -1,30 +1,20 @@
 -- `stopping::reorder::reorder_schur_stopping` meets its contract. Assumes nothing.
-use native.Mathlib.Nat.{lt_of_le_of_lt}
-use Rattle.model.specs.Stopping.{stopping_call, walk}
-use Rattle.stopping.proofs.Ways.{ended}
-use Rattle.form.proofs.Accepted.{move-accepted}
-use borrow.Author.Tests.{ne_eqb}
-use mathlib.Core.Path.{sym, ◌∙◌}
+use mathlib.Core.Path.{◌≡◌}
+use Rattle.std.proofs.Common.{rules, Err}
+use Rattle.model.specs.Stopping.{stopping_call}
+use Rattle.refusal.proofs.Told.{told}
+use Rattle.stopping.proofs.Ended.{ended}
 use Rattle.stopping.proofs.reorder.reorder_schur_stopping.Goals as goal
+use Rattle.stopping.proofs.reorder.reorder_schur_stopping.Goals.{in-Ok, in-Err}
 
-pub returns-then-line-ne0 : goal.returns-then-line-ne0
+pub returns-in_err-s : goal.returns-in_err-s
 unfolding stopping_call
-returns-then-line-ne0 c =
-    rw (← c.move_line-line.ensures, ne_eqb _ _ c.if-line-ne0.true)
-
-pub first_row-a-requires : goal.first_row-a-requires
-first_row-a-requires c =
-    let q = c.args in let z = move-accepted q.ld q.n q.t.now q.u.now q.from q.to (sym c.move_line-line.ensures ∙ c.if-line-ne0.false) in (z.0, z.2)
-
-pub first_row-b-requires : goal.first_row-b-requires
-first_row-b-requires c =
-    let q = c.args in let z = move-accepted q.ld q.n q.t.now q.u.now q.from q.to (sym c.move_line-line.ensures ∙ c.if-line-ne0.false) in (z.0, z.3)
-
-pub walk_from-g-requires : goal.walk_from-g-requires
-walk_from-g-requires c =
-    let q = c.args in let z = move-accepted q.ld q.n q.t.now q.u.now q.from q.to (sym c.move_line-line.ensures ∙ c.if-line-ne0.false) in (z.0, z.1, lt_of_le_of_lt c.first_row-a.ensures.1 z.2, lt_of_le_of_lt c.first_row-b.ensures.1 z.3)
+returns-in_err-s c =
+    let e = c.in_err-s.field-0.0 in
+    let x : c.from_residual.result ≡ Err e = search rules in
+    rw (x, ← c.in_err-s.ensures.line, told e)
 
 pub returns : goal.returns
-unfolding stopping_call walk
 returns c =
-    rw (← c.move_line-line.ensures, c.if-line-ne0.false, ← c.first_row-a.ensures.0, ← c.first_row-b.ensures.0) (ended c.walk_from-g.ensures)
+    let k = c.in_ok-s.ensures in
+    elim c.match-walk.branch [ in-Ok w ↦ rw w.stopped-is (ended _ _ k.shape.0 k.line w.in-Ok.ensures) | in-Err w ↦ rw w.stopped-is (ended _ _ k.shape.0 k.line w.in-Err.ensures) ]

@@ -12,9 +12,10 @@ returns-then-u-eq0 c = rw (eq-eqb _ _ c.if-u-eq0.true)
 
 pub reflect3_run-requires : goal.reflect3_run-requires
 reflect3_run-requires c =
+    let s = c.args.s in
     let h = c.requires in
-    let z = present h.0 h.1 h.2 h.3 c.if-u-eq0.false in
-    (cols z h.4 (le_refl _) c.place-q0.ensures.0, cols z h.5 (le_refl _) c.place-q1.ensures.0, cols z h.6 (le_refl _) c.place-q2.ensures.0)
+    let z = present s h.0 c.if-u-eq0.false in
+    (cols s z h.1 (le_refl _) c.place-q0.ensures.0, cols s z h.2 (le_refl _) c.place-q1.ensures.0, cols s z h.3 (le_refl _) c.place-q2.ensures.0)
 
 pub returns : goal.returns
 unfolding on_columns factor_rows

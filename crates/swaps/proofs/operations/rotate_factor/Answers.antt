@@ -12,20 +12,22 @@ returns-then-u-eq0 c = rw (eq-eqb _ _ c.if-u-eq0.true)
 
 pub rotate_run-requires : goal.rotate_run-requires
 rotate_run-requires c =
+    let s = c.args.s in
     let h = c.requires in
-    let z = rw c.if-ld-n.true at (present h.0 h.1 h.2 h.3 c.if-u-eq0.false) in
-    (cols z h.4 (le_refl _) c.place-q0.ensures.0, cols z h.5 (le_refl _) c.place-q1.ensures.0)
+    let z = present s h.0 c.if-u-eq0.false in
+    (cols s z h.1 (le_refl _) (rw c.if-s.true c.place-q0.ensures.0), cols s z h.2 (le_refl _) (rw c.if-s.true c.place-q1.ensures.0))
 
-pub returns-then-ld-n : goal.returns-then-ld-n
+pub returns-then-s : goal.returns-then-s
 unfolding on_columns factor_rows
-returns-then-ld-n c =
-    rw (ne_eqb _ _ c.if-u-eq0.false, c.if-ld-n.true, c.rotate_run.ensures, c.place-q0.ensures.0, c.place-q1.ensures.0)
+returns-then-s c =
+    rw (ne_eqb _ _ c.if-u-eq0.false, c.if-s.true, c.rotate_run.ensures, c.place-q0.ensures.0, c.place-q1.ensures.0)
 
 pub rotate_run-requires-2 : goal.rotate_run-requires-2
 rotate_run-requires-2 c =
+    let s = c.args.s in
     let h = c.requires in
-    let z = present h.0 h.1 h.2 h.3 c.if-u-eq0.false in
-    (cols z h.4 (le_refl _) c.place-q0-2.ensures.0, cols z h.5 (le_refl _) c.place-q1-2.ensures.0)
+    let z = present s h.0 c.if-u-eq0.false in
+    (cols s z h.1 (le_refl _) c.place-q0-2.ensures.0, cols s z h.2 (le_refl _) c.place-q1-2.ensures.0)
 
 pub returns : goal.returns
 unfolding on_columns factor_rows

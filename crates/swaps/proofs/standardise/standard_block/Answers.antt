@@ -6,4 +6,4 @@ use Rattle.swaps.proofs.standardise.standard_block.Goals as goal
 pub returns : goal.returns
 unfolding block_at
 returns c =
-    rw (c.get-d.ensures, c.get-c.ensures, c.get-b.ensures, c.get-a.ensures) at (ap (λ (s : Standardised). s.block) c.lahqr_schur22-s.ensures.standardised)
+    rw (c.get-d.ensures, c.get-c.ensures, c.get-b.ensures, c.get-a.ensures) at (ap (λ (s : Standardised). s.block) c.lahqr_schur22.ensures.standardised)

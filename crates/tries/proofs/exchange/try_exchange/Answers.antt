@@ -3,7 +3,7 @@ use mathlib.Core.Bool.{true, false}
 use mathlib.Core.Path.{refl, sym, ◌∙◌}
 use native.Mathlib.Omega.{arith}
 use Rattle.model.specs.Stopping.{test_fails}
-use Rattle.form.proofs.Runs.{resized, still}
+use Rattle.form.proofs.Runs.{still}
 use Rattle.tries.proofs.Tries.{one1, one2, failed, passed, whole, single}
 use Rattle.tries.proofs.exchange.try_exchange.Goals as goal
 
@@ -23,7 +23,7 @@ standardise_also-requires c =
     let h = c.requires in
     let k = c.try_swap.auto in
     let r = h.2 in
-    (resized h.0 k.t, still h.1 k.u, omega arith)
+    (k.t ∙ h.0, still c.args.s h.1 k.u, omega arith)
 
 pub standardise_also-requires-2 : goal.standardise_also-requires-2
 standardise_also-requires-2 c =
@@ -31,7 +31,7 @@ standardise_also-requires-2 c =
     let k = c.try_swap.auto in
     let m = c.standardise_also.auto in
     let r = h.2 in
-    (resized h.0 (m.t ∙ k.t), still h.1 (m.u ∙ k.u), omega arith)
+    (m.t ∙ k.t ∙ h.0, still c.args.s h.1 (m.u ∙ k.u), omega arith)
 
 pub returns : goal.returns
 returns c =

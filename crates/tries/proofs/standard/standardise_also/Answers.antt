@@ -14,9 +14,8 @@ pub rotate_factor-requires : goal.rotate_factor-requires
 rotate_factor-requires c =
     let h = c.requires in
     let k = h.2 in
-    let m = h.0 in
     let e = c.if-size-ne2.false in
-    (h.1, m.small, m.fits, m.near, omega arith, omega arith)
+    (h.1, omega arith, omega arith)
 
 pub returns : goal.returns
 unfolding standardise_also on_factor

@@ -15,8 +15,7 @@ pub reflect3_factor-requires : goal.reflect3_factor-requires
 reflect3_factor-requires c =
     let h = c.requires in
     let k = h.2 in
-    let m = h.0 in
-    (h.1, m.small, m.fits, m.near, omega arith, omega arith, omega arith)
+    (h.1, omega arith, omega arith, omega arith)
 
 pub returns : goal.returns
 unfolding fails12 swap12 on_factor
