@@ -15,9 +15,10 @@ pub fn float_of(w: u64) -> f64
     ensures { result ≡ of_bits binary64 w }
 {
     if is_nan(w) {
-        return 0.0 / 0.0;
+        f64::NAN
+    } else {
+        f64::from_bits(w)
     }
-    f64::from_bits(w)
 }
 
 // The numbers of all words.
@@ -25,9 +26,7 @@ pub fn floats_of(w: &[u64], out: &mut [f64])
     requires { length w.now ≡ length out.old }
     ensures { out.new ≡ map (of_bits binary64) w.now }
 {
-    let mut i = 0;
-    while i < w.len() {
+    for i in 0..w.len() {
         out[i] = float_of(w[i]);
-        i += 1;
     }
 }

@@ -1,58 +1,53 @@
 -- What a line does to the counts, and what bytes of input do: the whole of a run but for reading and writing. Definitions only. Assumes nothing.
-use Rattle.std.specs.Prelude.{ℕ, ◌+◌, ◌-◌, ◌≡◌, cond, List, [], ◌∷◌, eqb, ltb, length, take, drop, set}
+use Rattle.std.specs.Prelude.{ℕ, ◌+◌, ◌-◌, ◌≡◌, cond, List, [], ◌∷◌, eqb, ltb, length, take, drop, set, Option, Some, None, option_and_then}
 use Rattle.replay_text.specs.Text.{Read, words_of}
-use Rattle.replay_text.specs.Names.{name_end, call_named, calls}
-use Rattle.replay_text.specs.Counts.{Counts, counted, tallied}
-use Rattle.replay_text.specs.declared.word.Found.{Found}
+use Rattle.replay_text.specs.Names.{name_end, call_named}
+use Rattle.replay_text.specs.Counts as Counts
+use Rattle.replay_text.specs.declared.name.Call.{Call}
+use Rattle.replay_text.specs.declared.count.Tally.{Tally}
 use Rattle.replay_text.specs.declared.outcome.Outcome.{Outcome}
+use Rattle.replay.specs.declared.line.Desk.{Desk}
+use Rattle.replay.specs.declared.State.{State}
 use Rattle.replay.specs.Table.{shown}
 
 -- ---- a line
 
--- what the words of a line show of a call: the first is the line's index, and what has none is no line
-unfoldable pub shown_by : ℕ → List ℕ → Found → Outcome
-shown_by call words (Found.Words n) = cond (eqb n 0) Outcome.Malformed (shown call (take (n - 1) (drop 1 words)))
-shown_by call words Found.Malformed = Outcome.Malformed
+-- the call that a line names, and what its words show of it: the first is the line's index, and what has none is no line
+unfoldable pub shown_by : Option Call → Read → Option (Call × Outcome)
+shown_by (Some call) r =
+    option_and_then (λ n. cond (eqb n 0) None (Some (call, shown call (take (n - 1) (drop 1 r.out))))) r.found
+shown_by None r = None
 
 -- how many bytes of a line are told: its name and its index where it differs
-unfoldable pub told : ℕ → Outcome → ℕ
-told end Outcome.Same = 0
-told end Outcome.Differs = end + 17
-told end Outcome.Malformed = 0
-
--- the room for a line's words, and the counts
-pub record Desk : Type 0 where
-  pub words : List ℕ
-  pub counts : Counts
+unfoldable pub told : ℕ → Outcome → Option ℕ
+told end Outcome.Same = None
+told end Outcome.Differs = Some (end + 17)
+told end Outcome.Malformed = None
 
 -- a line is run: what is told of it, and the desk after it
 pub record Replayed : Type 0 where
-  pub told : ℕ
+  pub told : Option ℕ
   pub desk : Desk
 
--- a line of a call whose words were read so is counted
-unfoldable pub showing : ℕ → ℕ → Read → Counts → Replayed
-unfolding shown_by told
-showing end call r t =
-    let o = shown_by call r.out r.found in record { told = told end o; desk = record { words = r.out; counts = tallied call o t } }
+-- a line of a call is counted by what it shows
+unfoldable pub showing : ℕ → Option (Call × Outcome) → List ℕ → Tally → Replayed
+unfolding told
+showing end (Some p) words t = record { told = told end p.1; desk = record { words = words; tally = Counts.tallied p.0 p.1 t } }
+showing end None words t = record { told = None; desk = record { words = words; tally = Counts.refused t } }
 
 -- the name finds the call, the words are read, the call is made and its outcome counted
 unfoldable pub replayed : List ℕ → Desk → Replayed
-unfolding showing
+unfolding showing shown_by
 replayed line d =
-    let end = name_end line in showing end (call_named (take end line)) (words_of line end d.words) d.counts
+    let end = name_end line in
+    let r = words_of line end d.words in
+    showing end (shown_by (call_named (take end line)) r) r.out d.tally
 
 -- ---- the input
 
--- the bytes of the line that is not ended, in a buffer, and the desk
-pub record State : Type 0 where
-  pub line : List ℕ
-  pub len : ℕ
-  pub desk : Desk
-
 -- no line of a call
 unfoldable pub refused : Desk → Desk
-refused d = record { words = d.words; counts = record { runs = counted calls d.counts.runs; differ = d.counts.differ } }
+refused d = record { words = d.words; tally = Counts.refused d.tally }
 
 -- the line ends and is run; one that fills the buffer is no line of a call
 unfoldable pub ended : State → State
@@ -83,5 +78,5 @@ pub record Leads (s t : State) : Type 0 where
   pub is : t ≡ taken_all input s
 
 -- at the input's end, a line that is not ended is no line of a call
-unfoldable pub closed : ℕ → List ℕ → List ℕ
-closed len runs = cond (ltb 0 len) (counted calls runs) runs
+unfoldable pub closed : State → Tally
+closed s = cond (ltb 0 s.len) (Counts.refused s.desk.tally) s.desk.tally

@@ -1,13 +1,18 @@
 -- What the report says: each row's name and numbers. Definitions only. Assumes nothing.
-use Rattle.std.specs.Prelude.{ℕ, cond, List, ltb, get_or}
+use Rattle.std.specs.Prelude.{ℕ, List, Option, Some, None}
 use Rattle.model.specs.Ascii.{ascii}
-use Rattle.replay_text.specs.Names.{calls, name_of}
-use Rattle.replay_text.specs.Counts.{total_of}
+use Rattle.replay_text.specs.Names.{name_of}
+use Rattle.replay_text.specs.Counts.{of, total}
+use Rattle.replay_text.specs.declared.name.Call.{Call}
+use Rattle.replay_text.specs.declared.count.Count.{Count}
+use Rattle.replay_text.specs.declared.count.Tally.{Tally}
 
--- a call's name, and after the calls that of the sums
-unfoldable pub title : ℕ → List ℕ
-title row = cond (ltb row calls) (name_of row) (ascii "all                         ")
+-- a call's name, or that of the sums
+abbrev pub title : Option Call → List ℕ
+title (Some call) = name_of call
+title None = ascii "all                         "
 
--- a call's number, and after the calls the sum over them
-unfoldable pub number : ℕ → List ℕ → ℕ
-number row rows = cond (ltb row calls) (get_or rows row 0) (total_of rows)
+-- a call's numbers, or the sums over them
+abbrev pub number : Option Call → Tally → Count
+number (Some call) t = of call t
+number None t = total t

@@ -1,46 +1,39 @@
--- The calls by number: what a line of each shows. Definitions only. Assumes nothing.
-use Rattle.std.specs.Prelude.{ℕ, List, [], ◌∷◌, get_or}
+-- What a line of each call shows. Definitions only. Assumes nothing.
+use Rattle.std.specs.Prelude.{ℕ, List}
+use Rattle.replay_text.specs.declared.name.Call.{Call}
+use Rattle.replay_text.specs.declared.name.Call.TheVariants.{Abs, Abs1, Abs2, Recip, MulPow2, Fmax, Fmin, Sqrt, Hypot, NormL2, Rotg, Adjoint, Apply, MakeHouseholderInPlace, LahqrSchur22, Lasy2, SchurSwap, ReorderSchur, BlockValues, EvdFromRealSchur, Column, SchurSwapLd, ReorderSchurLd, BlockValuesLd, EvdFromRealSchurLd, ColumnLd, StandardisedValues, StandardisedValuesLd, ReorderSchurStopping, ReorderSchurStoppingLd}
 use Rattle.replay_text.specs.declared.outcome.Outcome.{Outcome}
 use Rattle.replay_forms.specs.Lines as Forms
 use Rattle.replay_calls.specs.Lines as Lines
 
-abbrev pub none : List ℕ → Outcome
-none w = Outcome.Malformed
-
-abbrev pub lines : List (List ℕ → Outcome)
-lines =
-    Lines.abs
-    ∷ Lines.abs1
-    ∷ Lines.abs2
-    ∷ Lines.recip
-    ∷ Lines.mul_pow2
-    ∷ Lines.fmax
-    ∷ Lines.fmin
-    ∷ Lines.sqrt
-    ∷ Lines.hypot
-    ∷ Lines.norm_l2
-    ∷ Lines.rotg
-    ∷ Lines.adjoint
-    ∷ Lines.apply
-    ∷ Lines.make_householder_in_place
-    ∷ Lines.lahqr_schur22
-    ∷ Lines.lasy2
-    ∷ Forms.schur_swap 0
-    ∷ Forms.reorder_schur 0
-    ∷ Forms.block_values 0
-    ∷ Forms.evd_from_real_schur 0
-    ∷ Forms.column 0
-    ∷ Forms.schur_swap 1
-    ∷ Forms.reorder_schur 1
-    ∷ Forms.block_values 1
-    ∷ Forms.evd_from_real_schur 1
-    ∷ Forms.column 1
-    ∷ Forms.standardised_values 0
-    ∷ Forms.standardised_values 1
-    ∷ Forms.reorder_schur_stopping 0
-    ∷ Forms.reorder_schur_stopping 1
-    ∷ []
-
--- what is no call has no lines
-abbrev pub shown : ℕ → List ℕ → Outcome
-shown call w = get_or lines call none w
+abbrev pub shown : Call → List ℕ → Outcome
+shown Abs = Lines.abs
+shown Abs1 = Lines.abs1
+shown Abs2 = Lines.abs2
+shown Recip = Lines.recip
+shown MulPow2 = Lines.mul_pow2
+shown Fmax = Lines.fmax
+shown Fmin = Lines.fmin
+shown Sqrt = Lines.sqrt
+shown Hypot = Lines.hypot
+shown NormL2 = Lines.norm_l2
+shown Rotg = Lines.rotg
+shown Adjoint = Lines.adjoint
+shown Apply = Lines.apply
+shown MakeHouseholderInPlace = Lines.make_householder_in_place
+shown LahqrSchur22 = Lines.lahqr_schur22
+shown Lasy2 = Lines.lasy2
+shown SchurSwap = Forms.schur_swap 0
+shown ReorderSchur = Forms.reorder_schur 0
+shown BlockValues = Forms.block_values 0
+shown EvdFromRealSchur = Forms.evd_from_real_schur 0
+shown Column = Forms.column 0
+shown SchurSwapLd = Forms.schur_swap 1
+shown ReorderSchurLd = Forms.reorder_schur 1
+shown BlockValuesLd = Forms.block_values 1
+shown EvdFromRealSchurLd = Forms.evd_from_real_schur 1
+shown ColumnLd = Forms.column 1
+shown StandardisedValues = Forms.standardised_values 0
+shown StandardisedValuesLd = Forms.standardised_values 1
+shown ReorderSchurStopping = Forms.reorder_schur_stopping 0
+shown ReorderSchurStoppingLd = Forms.reorder_schur_stopping 1

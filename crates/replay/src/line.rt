@@ -1,57 +1,67 @@
 // One line: its name is looked up, its words are read, the call is made, and the outcome counted.
-ghost use Rattle.std.specs.Prelude.{◌≡◌, ◌+◌, ◌^◌, ◌<◌};
+ghost use Rattle.std.specs.Prelude.{◌≡◌, ◌+◌, ◌^◌, ◌<◌, ◌≤◌, IfSome, length, take};
+ghost use Rattle.replay_text.specs.Names.{call_named};
+ghost use Rattle.replay_text.specs.Text.{words_of};
 ghost use Rattle.replay.specs.Replayed as Replayed;
 
 use crate::table;
-use replay_text::count::{refuse, tally};
-use replay_text::name::{ROWS, call_named, name_end};
+use replay_text::count::Tally;
+use replay_text::name::{Call, call_named, name_end};
 use replay_text::outcome::Outcome;
-use replay_text::word::{Found, words};
+use replay_text::word::words;
 use std::io;
 
 // How many bytes of a line are to be told: its name and its index if it differs.
-fn told(end: usize, outcome: Outcome) -> usize
+#[tactic(auto, unfolding(crate::specs::Replayed::told))]
+fn told(end: usize, outcome: Outcome) -> Option<usize>
     requires { end + 17 < 2 ^ 64 }
-    ensures { result ≡ Replayed.told end outcome }
+    ensures value { result ≡ Replayed.told end outcome }
+    ensures most { IfSome result (λ n. n ≤ end + 17) }
 {
-    match outcome {
-        Outcome::Same => 0,
-        Outcome::Differs => end + 17,
-        Outcome::Malformed => 0,
+    (outcome == Outcome::Differs).then_some(end + 17)
+}
+
+// The room for a line's words, and the counts.
+#[derive(Drop)]
+pub struct Desk {
+    pub words: [u64; 33000],
+    pub tally: Tally,
+}
+
+impl Desk {
+    // The call that a line names, and what the line shows of it. The first word is the line's index.
+    fn shown(&mut self, line: &[u8], end: usize) -> Option<(Call, Outcome)>
+        requires { end ≤ length line.now }
+        ensures value { result ≡ Replayed.shown_by (call_named (take end line.now)) (words_of line.now end self.old.words) }
+        ensures read { self.new ≡ record { words = (words_of line.now end self.old.words).out; tally = self.old.tally } }
+        ensures index { IfSome result (λ p. end + 17 ≤ length line.now) }
+    {
+        let call = call_named(&line[..end]);
+        let n = words(line, end, &mut self.words)?;
+        let given = self.words.get(1..n)?;
+        let call = call?;
+        Some((call, table::run(call, given)))
+    }
+
+    // Runs a line, and adds it to the lines run and, if it came out otherwise, to those that differ.
+    // Answers how many bytes of it are to be told.
+    #[tactic(auto, unfolding(crate::specs::Replayed::replayed, crate::specs::Replayed::showing))]
+    pub fn replay(&mut self, line: &[u8]) -> Option<usize>
+        ensures value { (record { told = result; desk = self.new }) ≡ Replayed.replayed line.now self.old }
+        ensures inside { IfSome result (λ n. n ≤ length line.now) }
+    {
+        let end = name_end(line);
+        let Some((call, outcome)) = self.shown(line, end) else {
+            self.tally.refuse();
+            return None;
+        };
+        self.tally.tally(call, outcome);
+        told(end, outcome)
     }
 }
 
-// Runs a line, and adds it to the lines run and, if it came out otherwise, to those that differ.
-// Answers how many bytes of it are to be told.
-pub fn replay(
-    line: &[u8],
-    room: &mut [u64],
-    runs: &mut [u64; ROWS],
-    differ: &mut [u64; ROWS],
-) -> usize
-    ensures { (record { told = result; desk = record { words = room.new; counts = record { runs = runs.new; differ = differ.new } } })
-        ≡ Replayed.replayed line.now (record { words = room.old; counts = record { runs = runs.old; differ = differ.old } }) }
-{
-    let end = name_end(line);
-    let call = call_named(&line[..end]);
-    let Found::Words(n) = words(line, end, room) else {
-        refuse(runs);
-        return 0;
-    };
-    if n == 0 {
-        refuse(runs);
-        return 0;
-    }
-    let outcome = table::run(call, &room[1..n]);
-    tally(call, outcome, runs, differ);
-    told(end, outcome)
-}
-
-// Writes the name and the index of a line that came out otherwise, and nothing where there are none.
+// Writes the name and the index of a line that came out otherwise.
 pub fn tell(out: &impl Print, head: &[u8]) -> io::Result<()> {
-    if head.len() == 0 {
-        return Ok(());
-    }
     out.write_all(b"differs: ")?;
     out.write_all(head)?;
     out.write_all(b"\n")

@@ -3,42 +3,43 @@
 ghost use Rattle.std.specs.Prelude.{◌≡◌};
 ghost use Rattle.replay.specs.Report as Report;
 
-use replay_text::count::total;
-use replay_text::name::{CALLS, ROWS, name_of};
+use replay_text::count::{Count, Tally};
+use replay_text::name::Call;
 use std::io;
 
-// The name of a row: a call's, and after the calls that of the sums.
-fn title(row: usize) -> [u8; 28]
-    ensures { result ≡ Report.title row }
+// The name of a row: a call's, or that of the sums.
+fn title(row: Option<Call>) -> &'static [u8; 28]
+    ensures { result.now ≡ Report.title row }
 {
-    if row < CALLS {
-        return name_of(row);
+    match row {
+        Some(call) => call.name(),
+        None => b"all                         ",
     }
-    *b"all                         "
 }
 
-// The number of a row: a call's, and after the calls the sum over them.
-fn number(of: &[u64; ROWS], row: usize) -> u64
-    ensures { result ≡ Report.number row of.now }
+// The numbers of a row: a call's, or the sums over them.
+fn number(row: Option<Call>, tally: &Tally) -> Count
+    ensures { result ≡ Report.number row tally.now }
 {
-    if row < CALLS {
-        return of[row];
+    match row {
+        Some(call) => tally.of(call),
+        None => tally.total(),
     }
-    total(of)
 }
 
 // Writes a row.
-fn write_row(out: &impl Print, name: &[u8; 28], run: u64, differ: u64) -> io::Result<()> {
-    out.write_all(name)?;
+fn write_row(out: &impl Print, row: Option<Call>, tally: &Tally) -> io::Result<()> {
+    out.write_all(title(row))?;
+    let Count { run, differ } = number(row, tally);
     println!(out; "{run} run, {differ} differ")
 }
 
 // Writes a row of each call, one of the sums, and how many lines were no line of a call.
-pub fn report(out: &impl Print, runs: &[u64; ROWS], differ: &[u64; ROWS]) -> io::Result<()> {
-    for row in 0..ROWS {
-        let name = title(row);
-        write_row(out, &name, number(runs, row), number(differ, row))?;
+pub fn report(out: &impl Print, tally: &Tally) -> io::Result<()> {
+    for call in Call::ALL {
+        write_row(out, Some(call), tally)?;
     }
-    let refused = runs[CALLS];
+    write_row(out, None, tally)?;
+    let refused = tally.refused;
     println!(out; "{refused} lines are no line of a call")
 }

@@ -20,32 +20,40 @@ at w i = of_bits binary64 (get_or w i 0)
 abbrev pub is : List ℕ → ℕ → Float → Bool
 is w i x = is_word x (get_or w i 0)
 
+-- of a call that takes a number and gives one
+abbrev pub one : (Float → Float) → List ℕ → Outcome
+one g w = judged (eqb (length w) 2) (is w 1 (g (at w 0)))
+
+-- of one that takes two
+abbrev pub two : (Float → Float → Float) → List ℕ → Outcome
+two g w = judged (eqb (length w) 3) (is w 2 (g (at w 0) (at w 1)))
+
 abbrev pub abs : List ℕ → Outcome
-abs w = judged (eqb (length w) 2) (is w 1 (Arith.abs (at w 0)))
+abs = one Arith.abs
 
 abbrev pub abs1 : List ℕ → Outcome
-abs1 w = judged (eqb (length w) 2) (is w 1 (Arith.abs1 (at w 0)))
+abs1 = one Arith.abs1
 
 abbrev pub abs2 : List ℕ → Outcome
-abs2 w = judged (eqb (length w) 2) (is w 1 (Arith.abs2 binary64 (at w 0)))
+abs2 = one (Arith.abs2 binary64)
 
 abbrev pub recip : List ℕ → Outcome
-recip w = judged (eqb (length w) 2) (is w 1 (Arith.recip binary64 (at w 0)))
+recip = one (Arith.recip binary64)
 
 abbrev pub sqrt : List ℕ → Outcome
-sqrt w = judged (eqb (length w) 2) (is w 1 (Root.sqrt binary64 (at w 0)))
+sqrt = one (Root.sqrt binary64)
 
 abbrev pub mul_pow2 : List ℕ → Outcome
-mul_pow2 w = judged (eqb (length w) 3) (is w 2 (Arith.mul_pow2 binary64 (at w 0) (at w 1)))
+mul_pow2 = two (Arith.mul_pow2 binary64)
 
 abbrev pub fmax : List ℕ → Outcome
-fmax w = judged (eqb (length w) 3) (is w 2 (Arith.fmax (at w 0) (at w 1)))
+fmax = two Arith.fmax
 
 abbrev pub fmin : List ℕ → Outcome
-fmin w = judged (eqb (length w) 3) (is w 2 (Arith.fmin (at w 0) (at w 1)))
+fmin = two Arith.fmin
 
 abbrev pub hypot : List ℕ → Outcome
-hypot w = judged (eqb (length w) 3) (is w 2 (Arith.hypot binary64 (at w 0) (at w 1)))
+hypot = two (Arith.hypot binary64)
 
 abbrev pub norm_l2 : List ℕ → Outcome
 norm_l2 w = judged (eqb (length w) 8 && leb (get_or w 0 0) 6) (is w 7 (Arith.norm_l2 binary64 (take (get_or w 0 0) (from w 1 6))))

@@ -2,7 +2,8 @@
 // given ones and compares what it gives with the rest. oracle/README.md lists the words.
 ghost use Rattle.std.specs.Prelude.{◌≡◌, ◌≤◌, length, replicate};
 ghost use Rattle.std.specs.Float.{binary64};
-ghost use Rattle.std.specs.Float.Ieee.{of_bits};
+ghost use Rattle.std.specs.Float.Ieee.{Float, of_bits};
+ghost use Rattle.linalg.specs.View.{rotation};
 ghost use Rattle.replay_calls.specs.Lines as Lines;
 
 use bits::float::{float_of, floats_of};
@@ -10,163 +11,92 @@ use linalg::jacobi::JacobiRotation;
 use replay_text::float::{are_words, is_word};
 use replay_text::outcome::{Outcome, judge};
 
-// x; r.
-pub fn abs(w: &[u64]) -> Outcome
-    ensures { result ≡ Lines.abs w.now }
+// x; r. A call that takes a number and gives one.
+pub fn one<F: Fn(f64) -> f64>(w: &[u64], call: F) -> Outcome
+    requires { F.IsAlwaysCallable call }
+    ensures { (g : Float → Float) → ((x y : Float) → F.post call x y → y ≡ g x) → result ≡ Lines.one g w.now }
 {
-    if w.len() != 2 {
+    let &[x, r] = w else {
         return Outcome::Malformed;
-    }
-    judge(is_word(arith::real::abs(float_of(w[0])), w[1]))
+    };
+    judge(is_word(call(float_of(x)), r))
 }
 
-// x; r.
-pub fn abs1(w: &[u64]) -> Outcome
-    ensures { result ≡ Lines.abs1 w.now }
+// p q; r. A call that takes two numbers and gives one.
+pub fn two<F: Fn(f64, f64) -> f64>(w: &[u64], call: F) -> Outcome
+    requires { F.IsAlwaysCallable call }
+    ensures { (g : Float → Float → Float) → ((p q y : Float) → F.post call p q y → y ≡ g p q) → result ≡ Lines.two g w.now }
 {
-    if w.len() != 2 {
+    let &[p, q, r] = w else {
         return Outcome::Malformed;
-    }
-    judge(is_word(arith::real::abs1(float_of(w[0])), w[1]))
-}
-
-// x; r.
-pub fn abs2(w: &[u64]) -> Outcome
-    ensures { result ≡ Lines.abs2 w.now }
-{
-    if w.len() != 2 {
-        return Outcome::Malformed;
-    }
-    judge(is_word(arith::real::abs2(float_of(w[0])), w[1]))
-}
-
-// x; r.
-pub fn recip(w: &[u64]) -> Outcome
-    ensures { result ≡ Lines.recip w.now }
-{
-    if w.len() != 2 {
-        return Outcome::Malformed;
-    }
-    judge(is_word(arith::real::recip(float_of(w[0])), w[1]))
-}
-
-// x; r.
-pub fn sqrt(w: &[u64]) -> Outcome
-    ensures { result ≡ Lines.sqrt w.now }
-{
-    if w.len() != 2 {
-        return Outcome::Malformed;
-    }
-    judge(is_word(root::sqrt::sqrt(float_of(w[0])), w[1]))
-}
-
-// x p; r.
-pub fn mul_pow2(w: &[u64]) -> Outcome
-    ensures { result ≡ Lines.mul_pow2 w.now }
-{
-    if w.len() != 3 {
-        return Outcome::Malformed;
-    }
-    judge(is_word(arith::real::mul_pow2(float_of(w[0]), float_of(w[1])), w[2]))
-}
-
-// p q; r.
-pub fn fmax(w: &[u64]) -> Outcome
-    ensures { result ≡ Lines.fmax w.now }
-{
-    if w.len() != 3 {
-        return Outcome::Malformed;
-    }
-    judge(is_word(arith::real::fmax(float_of(w[0]), float_of(w[1])), w[2]))
-}
-
-// p q; r.
-pub fn fmin(w: &[u64]) -> Outcome
-    ensures { result ≡ Lines.fmin w.now }
-{
-    if w.len() != 3 {
-        return Outcome::Malformed;
-    }
-    judge(is_word(arith::real::fmin(float_of(w[0]), float_of(w[1])), w[2]))
-}
-
-// p q; r.
-pub fn hypot(w: &[u64]) -> Outcome
-    ensures { result ≡ Lines.hypot w.now }
-{
-    if w.len() != 3 {
-        return Outcome::Malformed;
-    }
-    judge(is_word(arith::norm::hypot(float_of(w[0]), float_of(w[1])), w[2]))
+    };
+    judge(is_word(call(float_of(p), float_of(q)), r))
 }
 
 // The length, 6 places; r.
 pub fn norm_l2(w: &[u64]) -> Outcome
     ensures { result ≡ Lines.norm_l2 w.now }
 {
-    if w.len() != 8 {
+    let &[n, a, b, c, d, e, f, r] = w else {
         return Outcome::Malformed;
-    }
-    let n = w[0] as usize;
+    };
     if n > 6 {
         return Outcome::Malformed;
     }
-    let mut x = [0.0; 6];
-    floats_of(&w[1..7], &mut x);
-    judge(is_word(arith::norm::norm_l2(&x[..n]), w[7]))
+    let x = [a, b, c, d, e, f].map(float_of);
+    judge(is_word(arith::norm::norm_l2(&x[..n as usize]), r))
+}
+
+// The rotation of two words.
+fn rotation(c: u64, s: u64) -> JacobiRotation
+    ensures { rotation result ≡ record { c = of_bits binary64 c; s = of_bits binary64 s } }
+{
+    JacobiRotation {
+        c: float_of(c),
+        s: float_of(s),
+    }
 }
 
 // p q; c s r.
 pub fn rotg(w: &[u64]) -> Outcome
     ensures { result ≡ Lines.rotg w.now }
 {
-    if w.len() != 5 {
+    let &[p, q, c, s, r] = w else {
         return Outcome::Malformed;
-    }
-    let g = linalg::jacobi::rotg(float_of(w[0]), float_of(w[1]));
-    let c = is_word(g.rot.c, w[2]);
-    let s = is_word(g.rot.s, w[3]);
-    let r = is_word(g.r, w[4]);
-    judge(c & s & r)
+    };
+    let g = linalg::jacobi::rotg(float_of(p), float_of(q));
+    judge(is_word(g.rot.c, c) && is_word(g.rot.s, s) && is_word(g.r, r))
 }
 
 // c s; c s.
 pub fn adjoint(w: &[u64]) -> Outcome
     ensures { result ≡ Lines.adjoint w.now }
 {
-    if w.len() != 4 {
+    let &[c, s, j_c, j_s] = w else {
         return Outcome::Malformed;
-    }
-    let c = float_of(w[0]);
-    let s = float_of(w[1]);
-    let j = linalg::jacobi::adjoint(JacobiRotation { c, s });
-    let c = is_word(j.c, w[2]);
-    let s = is_word(j.s, w[3]);
-    judge(c & s)
+    };
+    let j = linalg::jacobi::adjoint(rotation(c, s));
+    judge(is_word(j.c, j_c) && is_word(j.s, j_s))
 }
 
 // c s x y; x y.
 pub fn apply(w: &[u64]) -> Outcome
     ensures { result ≡ Lines.apply w.now }
 {
-    if w.len() != 6 {
+    let &[c, s, x, y, p_x, p_y] = w else {
         return Outcome::Malformed;
-    }
-    let c = float_of(w[0]);
-    let s = float_of(w[1]);
-    let rot = JacobiRotation { c, s };
-    let p = linalg::jacobi::apply_on_the_right(rot, float_of(w[2]), float_of(w[3]));
-    let x = is_word(p.x, w[4]);
-    let y = is_word(p.y, w[5]);
-    judge(x & y)
+    };
+    let p = linalg::jacobi::apply_on_the_right(rotation(c, s), float_of(x), float_of(y));
+    judge(is_word(p.x, p_x) && is_word(p.y, p_y))
 }
 
 // The places of a tail of n numbers in a line: 5, or n if that is more.
+#[tactic(auto, unfolding(crate::specs::Lines::places))]
 fn places(n: usize) -> usize
     requires { n ≤ 66 }
     ensures { (result ≡ Lines.places n) × (5 ≤ result) × (n ≤ result) × (result ≤ 66) }
 {
-    if n <= 5 { 5 } else { n }
+    n.max(5)
 }
 
 // Room for a tail of 66 numbers, two more than a call takes.

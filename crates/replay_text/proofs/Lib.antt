@@ -1,3 +1,4 @@
 pub mod Found
+pub mod Places
 pub mod Words
 pub mod Names

@@ -1,29 +1,42 @@
 -- The lines run of each call, and those that differ, by outcome. Definitions only. Assumes nothing.
-use Rattle.std.specs.Prelude.{ℕ, zero, suc, ◌+◌, ◌%◌, ◌^◌, List, slice_index, slice_set}
-use Rattle.replay_text.specs.Names.{calls}
+use Rattle.std.specs.Prelude.{ℕ, ◌+◌, ◌%◌, ◌^◌, slice_index_or, slice_set, fold, replicate}
+use Rattle.replay_text.specs.Names.{row}
+use Rattle.replay_text.specs.declared.name.Call.{Call}
 use Rattle.replay_text.specs.declared.outcome.Outcome.{Outcome}
+use Rattle.replay_text.specs.declared.count.Count.{Count}
+use Rattle.replay_text.specs.declared.count.Tally.{Tally}
 
--- a row of each call, and in `runs` one of the lines that are no line of a call
-pub record Counts : Type 0 where
-  pub runs : List ℕ
-  pub differ : List ℕ
+-- one more, in 64 bits
+abbrev pub counted : ℕ → ℕ
+counted n = (n + 1) % 2 ^ 64
 
--- one more in a row
-abbrev pub counted : ℕ → List ℕ → List ℕ
-counted row rows = slice_set rows row ((slice_index rows row + 1) % 2 ^ 64)
+abbrev pub nothing : Count
+nothing = record { run = 0; differ = 0 }
+
+-- before the first line
+abbrev pub none : Tally
+none = record { calls = replicate 30 nothing; refused = 0 }
+
+-- a call's count
+abbrev pub of : Call → Tally → Count
+of call t = slice_index_or t.calls (row call) nothing
+
+-- no line of a call
+abbrev pub refused : Tally → Tally
+refused t = record { calls = t.calls; refused = counted t.refused }
 
 -- a line is run, and differs or not; or it is no line of a call
-unfoldable pub tallied : ℕ → Outcome → Counts → Counts
-tallied call Outcome.Same t = record { runs = counted call t.runs; differ = t.differ }
-tallied call Outcome.Differs t = record { runs = counted call t.runs; differ = counted call t.differ }
-tallied call Outcome.Malformed t = record { runs = counted calls t.runs; differ = t.differ }
+unfoldable pub tallied : Call → Outcome → Tally → Tally
+tallied call Outcome.Same t =
+    let c = of call t in record { calls = slice_set t.calls (row call) (record { run = counted c.run; differ = c.differ }); refused = t.refused }
+tallied call Outcome.Differs t =
+    let c = of call t in record { calls = slice_set t.calls (row call) (record { run = counted c.run; differ = counted c.differ }); refused = t.refused }
+tallied call Outcome.Malformed t = refused t
 
--- the sum of k rows from a row on, in 64 bits
-unfoldable pub sum_from : ℕ → ℕ → ℕ → List ℕ → ℕ
-sum_from zero row sum rows = sum
-sum_from (suc k) row sum rows = sum_from k (row + 1) ((sum + slice_index rows row) % 2 ^ 64) rows
+-- two counts together, in 64 bits
+abbrev pub plus : Count → Count → Count
+plus a b = record { run = (a.run + b.run) % 2 ^ 64; differ = (a.differ + b.differ) % 2 ^ 64 }
 
 -- over all calls
-unfoldable pub total_of : List ℕ → ℕ
-unfolding sum_from
-total_of rows = sum_from calls 0 0 rows
+abbrev pub total : Tally → Count
+total t = fold plus nothing t.calls

@@ -1,49 +1,80 @@
 // The counts: of each call the lines run and those that differ, and the lines that are none.
-ghost use Rattle.std.specs.Prelude.{◌≡◌, ◌<◌};
+ghost use Rattle.std.specs.Prelude.{◌≡◌};
 ghost use Rattle.replay_text.specs.Counts as Counts;
-ghost use Rattle.replay_text.specs.Names as Names;
 
-use crate::name::{CALLS, ROWS};
+use crate::name::{CALLS, Call};
 use crate::outcome::Outcome;
-use std::num::wrapping_add_u64;
 
-// One more in a row.
-fn count(rows: &mut [u64; ROWS], row: usize)
-    requires { row < ROWS }
-    ensures { rows.new ≡ Counts.counted row rows.old }
-{
-    rows[row] = wrapping_add_u64(rows[row], 1);
+// How many lines were run, and how many of them differ.
+#[derive(Clone, Copy, Debug, Default, PartialEq, Eq)]
+pub struct Count {
+    pub run: u64,
+    pub differ: u64,
 }
 
-// A line that is no line of a call.
-pub fn refuse(runs: &mut [u64; ROWS])
-    ensures { runs.new ≡ Counts.counted Names.calls runs.old }
-{
-    count(runs, CALLS);
-}
-
-// Counts a line of a call by its outcome.
-pub fn tally(call: usize, outcome: Outcome, runs: &mut [u64; ROWS], differ: &mut [u64; ROWS])
-    requires { call < 31 }
-    ensures { (record { runs = runs.new; differ = differ.new }) ≡ Counts.tallied call outcome (record { runs = runs.old; differ = differ.old }) }
-{
-    match outcome {
-        Outcome::Same => count(runs, call),
-        Outcome::Differs => {
-            count(runs, call);
-            count(differ, call);
+impl Count {
+    fn plus(self, other: Count) -> Count
+        ensures { result ≡ Counts.plus self other }
+    {
+        Count {
+            run: self.run.wrapping_add(other.run),
+            differ: self.differ.wrapping_add(other.differ),
         }
-        Outcome::Malformed => refuse(runs),
     }
 }
 
-// The sum over all calls.
-pub fn total(of: &[u64; ROWS]) -> u64
-    ensures { result ≡ Counts.total_of of.now }
-{
-    let mut sum: u64 = 0;
-    for call in 0..CALLS {
-        sum = wrapping_add_u64(sum, of[call]);
+// A count of each call, and how many lines were no line of a call.
+#[derive(Clone, Copy, Debug, PartialEq, Eq)]
+pub struct Tally {
+    pub calls: [Count; CALLS],
+    pub refused: u64,
+}
+
+impl Tally {
+    pub fn new() -> Self
+        ensures { result ≡ Counts.none }
+    {
+        Tally {
+            calls: [Count::default(); CALLS],
+            refused: 0,
+        }
     }
-    sum
+
+    // A line that is no line of a call.
+    pub fn refuse(&mut self)
+        ensures { self.new ≡ Counts.refused self.old }
+    {
+        self.refused = self.refused.wrapping_add(1);
+    }
+
+    // Counts a line of a call by its outcome.
+    #[tactic(auto, unfolding(crate::specs::Counts::tallied))]
+    pub fn tally(&mut self, call: Call, outcome: Outcome)
+        ensures { self.new ≡ Counts.tallied call outcome self.old }
+    {
+        let count = &mut self.calls[call as usize];
+        match outcome {
+            Outcome::Same => count.run = count.run.wrapping_add(1),
+            Outcome::Differs => {
+                count.run = count.run.wrapping_add(1);
+                count.differ = count.differ.wrapping_add(1);
+            }
+            Outcome::Malformed => self.refuse(),
+        }
+    }
+
+    pub fn of(&self, call: Call) -> Count
+        ensures { result ≡ Counts.of call self.now }
+    {
+        self.calls[call as usize]
+    }
+
+    // The sum over all calls.
+    pub fn total(&self) -> Count
+        ensures { result ≡ Counts.total self.now }
+    {
+        self.calls
+            .iter()
+            .fold(Count::default(), |sum, count| sum.plus(*count))
+    }
 }

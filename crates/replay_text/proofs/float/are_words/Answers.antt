@@ -1,7 +1,10 @@
--- `replay_text::float::are_words` meets its contract. The invariant: what is left decides the whole. Assumes nothing.
-use Rattle.std.proofs.Common.{◌≡◌, ℕ, suc, ◌+◌, ◌<◌, ◌≤◌, Bool, true, false, List, [], ◌∷◌, length, get_or, drop, refl, ap, ◌∙◌, add-one, drop_of_length-le, drop-cons, rules}
+-- `replay_text::float::are_words` meets its contract. Assumes nothing.
+use Rattle.std.proofs.Common.{◌≡◌, ℕ, suc, false, ◌&&◌, List, [], ◌∷◌, length, refl, ap, ◌∙◌, ne_eqb, arith, rules, tests}
 use mathlib.Core.Bool.{and-false}
-use lib.Ieee.{Float, nan}
+use Rattle.std.specs.List.{list_all, zip}
+use Rattle.std.proofs.lemmas.Iterator.{YieldsList-from_slice, YieldsList-from_zip}
+use Rattle.std.proofs.lemmas.Iterator.Search.{all_from_yields_List}
+use lib.Ieee.{Float}
 use Rattle.replay_text.specs.Float.{is_word, are_words}
 use Rattle.replay_text.proofs.float.are_words.Goals as goal
 
@@ -12,33 +15,20 @@ unlike [] (b ∷ w) h = refl
 unlike (a ∷ x) [] h = refl
 unlike (a ∷ x) (b ∷ w) h = rw (← unlike x w (λ e. h (ap suc e)), and-false)
 
-module _ (x : List Float) (w : List ℕ) (i : ℕ) (b : Bool) (h : i < length x) (g : i < length w) (is : b ≡ is_word (get_or x i nan) (get_or w i 0)) where
-  stop : b ≡ false → false ≡ are_words (drop i x) (drop i w)
-  unfolding are_words
-  stop e = rw (drop-cons x i nan h, drop-cons w i 0 g, ← is, e)
-
-  next : b ≡ true → are_words (drop (i + 1) x) (drop (i + 1) w) ≡ are_words (drop i x) (drop i w)
-  unfolding are_words
-  next e = rw (drop-cons x i nan h, drop-cons w i 0 g, ← is, e, add-one i)
-
-none : (x : List Float) (w : List ℕ) (i : ℕ) → length x ≤ i → length w ≤ i → true ≡ are_words (drop i x) (drop i w)
+alike : (x : List Float) (w : List ℕ) → length x ≡ length w → list_all (λ p. is_word p.0 p.1) (zip x w) ≡ are_words x w
 unfolding are_words
-none x w i h g = rw (drop_of_length-le x h, drop_of_length-le w g)
+alike [] [] h = refl
+alike [] (b ∷ w) h = absurd (omega arith)
+alike (a ∷ x) [] h = absurd (omega arith)
+alike (a ∷ x) (b ∷ w) h = ap (λ r. is_word a b && r) (alike x w (omega arith))
 
 pub returns-then-x-w : goal.returns-then-x-w
-returns-then-x-w c = unlike _ _ c.if-x-w.true
+returns-then-x-w c =
+    let x = c.args.x.now in
+    let w = c.args.w.now in
+    all_from_yields_List (λ p. is_word p.0 p.1) c.all.new.self _ c.all.result c.all.ensures.ran
+    (YieldsList-from_zip (YieldsList-from_slice x cc) (YieldsList-from_slice w cc)) (λ x b q k. search (rules, tests))
+    ∙ alike x w c.if-x-w.true
 
-pub loop-i-init : goal.loop-i-init
-loop-i-init c = (search rules, refl)
-
-pub returns-then-not-is_word : goal.returns-then-not-is_word
-returns-then-not-is_word c =
-    stop _ _ _ _ c.loop-i-test.true (search rules) c.is_word.ensures c.if-not-is_word.true ∙ c.loop-i.invariant.1
-
-pub loop-i-preserved : goal.loop-i-preserved
-loop-i-preserved c =
-    (search rules, next _ _ _ _ c.loop-i-test.true (search rules) c.is_word.ensures c.if-not-is_word.false ∙ c.loop-i.invariant.1)
-
-pub returns : goal.returns
-returns c =
-    none _ _ _ c.loop-i-test.false (search rules) ∙ c.loop-i.invariant.1
+pub returns-else-x-w : goal.returns-else-x-w
+returns-else-x-w c = rw (ne_eqb _ _ c.if-x-w.false) (unlike _ _ c.if-x-w.false)
