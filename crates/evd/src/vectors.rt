@@ -12,38 +12,31 @@ use form::deep::quasi_triangular;
 use form::shape::Shape;
 use refusal::Refusal;
 use solve::block::imag_size;
+use solve::leading::Leading;
 use solve::solve_cplx::solve_cplx_shifted_upper_quasi_triangular_system;
 use solve::solve_real::solve_real_shifted_upper_quasi_triangular_system;
 use solve::walk::{EachBlock, blocks_down};
 
-// norm plus the magnitudes of `count` numbers from place p on.
-fn add_magnitudes(t: &[f64], p: usize, count: usize, norm: f64) -> f64
-    requires { p + count ≤ length t.now }
-    ensures { result ≡ Vectors.sum_from binary64 t.now p count 0 norm }
+// norm plus the magnitudes of the numbers.
+fn add_magnitudes(xs: &[f64], norm: f64) -> f64
+    ensures { result ≡ Vectors.sum_from binary64 xs.now 0 (length xs.now) 0 norm }
 {
     let mut acc = norm;
-    for i in 0..count {
-        acc += abs1(t[p + i]);
+    for x in xs {
+        acc += abs1(*x);
     }
     acc
 }
 
-// How many rows of column j are summed: down to the subdiagonal.
-fn rows_to(n: usize, j: usize) -> usize
-    requires { (n ≤ 64) × (j < n) }
-    ensures { (result ≡ Vectors.rows_to n j) × (result ≤ n) }
-{
-    if j + 2 < n { j + 2 } else { n }
-}
-
-// The sum of magnitudes, column after column.
+// The sum of magnitudes, column after column, each down to the subdiagonal.
 fn form_norm(s: Shape, t: &[f64]) -> f64
     requires { Holds s t.now }
     ensures { result ≡ Vectors.form_norm binary64 s.ld s.n t.now }
 {
     let mut norm = 0.0;
     for j in 0..s.n {
-        norm = add_magnitudes(t, s.place(0, j), rows_to(s.n, j), norm);
+        let top = s.place(0, j);
+        norm = add_magnitudes(&t[top..top + s.n.min(j + 2)], norm);
     }
     norm
 }
@@ -146,8 +139,9 @@ impl EachBlock for Columns<'_> {
         s.put(&mut *v, k, k, 1.0);
         let top = s.place(0, k);
         negate_run(self.t, top, k, &mut *v);
+        let a = Leading { s, a: self.t, n: k };
         let x = &mut v[top..top + k];
-        solve_real_shifted_upper_quasi_triangular_system(s, self.t, k, p, self.norm, x);
+        solve_real_shifted_upper_quasi_triangular_system(a, p, self.norm, x);
     }
 
     // A 2-block's columns j and j + 1: the real and the imaginary part.
@@ -156,8 +150,9 @@ impl EachBlock for Columns<'_> {
         let q = self.open_columns(j, &mut *v);
         let p = s.get(self.t, j + 1, j + 1);
         let top = s.place(0, j);
+        let a = Leading { s, a: self.t, n: j };
         let x = &mut v[top..top + (s.ld + j)];
-        solve_cplx_shifted_upper_quasi_triangular_system(s, self.t, j, p, q, self.norm, x);
+        solve_cplx_shifted_upper_quasi_triangular_system(a, p, q, self.norm, x);
     }
 }
 
@@ -170,11 +165,7 @@ pub fn evd_from_real_schur(n: usize, ld: usize, t: &[f64], v: &mut [f64]) -> Res
         return Err(Refusal::BufferLength);
     }
     quasi_triangular(s, t)?;
-    let columns = Columns {
-        s,
-        t,
-        norm: form_norm(s, t),
-    };
-    blocks_down(s, t, &columns, s.n, v);
+    let norm = form_norm(s, t);
+    blocks_down(Leading { s, a: t, n: s.n }, &Columns { s, t, norm }, v);
     Ok(())
 }

@@ -2,14 +2,12 @@
 ghost use Rattle.std.specs.Prelude.{◌≡◌, ◌<◌, ◌≤◌, length};
 ghost use Rattle.std.specs.Float.{binary64};
 ghost use Rattle.model.specs.Vectors as Vectors;
-ghost use Rattle.form.specs.Shaped.{Holds};
 
 use crate::dots::{dot2x1, inner_prod};
 use crate::leading::Leading;
 use crate::strided::Strided;
 use crate::walk::{EachBlock, blocks_down};
 use arith::real::{EPS, abs, abs2, recip};
-use form::shape::Shape;
 
 // The divisor, or eps * norm where it is below that in magnitude.
 #[tactic(auto, unfolding(model::specs::Vectors::divisor))]
@@ -78,20 +76,15 @@ impl EachBlock for Shifted<'_> {
     }
 }
 
-// A is the first n rows and columns of the form a.
 #[tactic(auto, unfolding(model::specs::Vectors::solve_real))]
 pub fn solve_real_shifted_upper_quasi_triangular_system(
-    s: Shape,
-    a: &[f64],
-    n: usize,
+    a: Leading,
     p: f64,
     norm: f64,
     x: &mut [f64],
 )
-    requires { Holds s a.now × (n ≤ s.n) × (n ≤ length x.old) }
-    ensures { x.new ≡ Vectors.solve_real binary64 s.ld a.now p norm n x.old }
+    requires { a.n ≤ length x.old }
+    ensures { x.new ≡ Vectors.solve_real binary64 a.entry.s.ld a.entry.a.now p norm a.entry.n x.old }
 {
-    let a = Leading { s, a, n };
-    let m = Shifted { a, p, norm };
-    blocks_down(s, a.a, &m, n, x);
+    blocks_down(a, &Shifted { a, p, norm }, x);
 }

@@ -32,4 +32,4 @@ pub returns : goal.returns
 unfolding evd_from_real_schur vectors_of
 returns c =
     let k = c.in_ok-s.ensures.shape in
-    rw (vectors_first, ← c.in_ok-s.ensures.line, eq-eqb _ _ (rw (k.stride, k.rows) at c.if-v-s.false), ← (rw (k.stride, k.rows) at c.in_ok-quasi_triangular.ensures), c.blocks_down.ensures, c.form_norm.ensures, k.stride, k.rows)
+    rw (vectors_first, ← c.in_ok-s.ensures.line, eq-eqb _ _ (rw (k.stride, k.rows) at c.if-v-s.false), ← (rw (k.stride, k.rows) at c.in_ok-quasi_triangular.ensures), c.blocks_down.ensures, c.form_norm-norm.ensures, k.stride, k.rows)
