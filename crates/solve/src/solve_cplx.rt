@@ -74,6 +74,7 @@ impl Shifted<'_> {
     }
 
     // Rows i and i + 1 less their inner products with the rows below.
+    #[tactic(auto, unfolding(model::specs::Vectors::cplx_rest))]
     fn rest_of(&self, i: usize, x: &[f64]) -> Rows
         requires { (i + 1 < self.now.a.n) × (self.now.a.s.ld + self.now.a.n ≤ length x.now) }
         ensures { (complex result.upper ≡ Vectors.cplx_rest binary64 self.now.a.s.ld self.now.a.a.now self.now.a.n x.now i (i + 2)) × (complex result.lower ≡ Vectors.cplx_rest binary64 self.now.a.s.ld self.now.a.a.now self.now.a.n x.now (i + 1) (i + 2)) }
@@ -81,18 +82,8 @@ impl Shifted<'_> {
         let a = self.a;
         let ld = a.s.ld;
         let count = a.n - (i + 2);
-        let re = Strided {
-            list: x,
-            start: i + 2,
-            step: 1,
-            count,
-        };
-        let im = Strided {
-            list: x,
-            start: ld + (i + 2),
-            step: 1,
-            count,
-        };
+        let re = Strided::run(x, i + 2, count);
+        let im = Strided::run(x, ld + (i + 2), count);
         let dot = dot2x2(a.row(i, i + 2), a.row(i + 1, i + 2), re, im);
         let upper = Complex {
             re: dot.0,
@@ -118,22 +109,13 @@ impl EachBlock for Shifted<'_> {
 
     ghost two = { λ m. Vectors.cplx_two binary64 m.a.s.ld m.a.a.now m.p m.q m.norm m.a.n };
 
+    #[tactic(auto, unfolding(model::specs::Vectors::cplx_one))]
     fn one(&self, i: usize, x: &mut [f64]) {
         let a = self.a;
         let ld = a.s.ld;
         let count = a.n - (i + 1);
-        let re = Strided {
-            list: &*x,
-            start: i + 1,
-            step: 1,
-            count,
-        };
-        let im = Strided {
-            list: &*x,
-            start: ld + (i + 1),
-            step: 1,
-            count,
-        };
+        let re = Strided::run(&*x, i + 1, count);
+        let im = Strided::run(&*x, ld + (i + 1), count);
         let dot = dot2x1(re, im, a.row(i, i + 1));
         let below = Complex {
             re: dot.0,
@@ -144,6 +126,7 @@ impl EachBlock for Shifted<'_> {
         self.put(i, r * z.inverse(self.norm), x);
     }
 
+    #[tactic(auto, unfolding(model::specs::Vectors::cplx_two))]
     fn two(&self, i: usize, x: &mut [f64]) {
         let r = self.rest_of(i, &*x);
         let k = self.a.block(i);
@@ -153,6 +136,7 @@ impl EachBlock for Shifted<'_> {
     }
 }
 
+// What is sought stands in x after it, where b stood.
 #[tactic(auto, unfolding(model::specs::Vectors::solve_cplx))]
 pub fn solve_cplx_shifted_upper_quasi_triangular_system(
     a: Leading,

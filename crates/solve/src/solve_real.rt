@@ -42,14 +42,10 @@ impl EachBlock for Shifted<'_> {
 
     ghost two = { λ m. Vectors.real_two binary64 m.a.s.ld m.a.a.now m.p m.a.n };
 
+    #[tactic(auto, unfolding(model::specs::Vectors::real_one))]
     fn one(&self, i: usize, x: &mut [f64]) {
         let a = self.a;
-        let rest = Strided {
-            list: &*x,
-            start: i + 1,
-            step: 1,
-            count: a.n - (i + 1),
-        };
+        let rest = Strided::run(&*x, i + 1, a.n - (i + 1));
         let dot = inner_prod(a.row(i, i + 1), rest);
         let z = divisor(a.get(i, i) - self.p, self.norm);
         let r = x[i] - dot;
@@ -57,14 +53,10 @@ impl EachBlock for Shifted<'_> {
     }
 
     // The diagonal number of the lower row serves for both.
+    #[tactic(auto, unfolding(model::specs::Vectors::real_two))]
     fn two(&self, i: usize, x: &mut [f64]) {
         let a = self.a;
-        let rest = Strided {
-            list: &*x,
-            start: i + 2,
-            step: 1,
-            count: a.n - (i + 2),
-        };
+        let rest = Strided::run(&*x, i + 2, a.n - (i + 2));
         let (dot0, dot1) = dot2x1(a.row(i, i + 2), a.row(i + 1, i + 2), rest);
         let r0 = x[i] - dot0;
         let r1 = x[i + 1] - dot1;
@@ -76,6 +68,7 @@ impl EachBlock for Shifted<'_> {
     }
 }
 
+// What is sought stands in x after it, where b stood.
 #[tactic(auto, unfolding(model::specs::Vectors::solve_real))]
 pub fn solve_real_shifted_upper_quasi_triangular_system(
     a: Leading,
