@@ -72,5 +72,5 @@ module _ (f : Format) (ld : ℕ) (a : List Float) (one two : ℕ → List Float 
     pub step_one : size ≡ 1 → y ≡ one (rows - size) x → down (rows - size) y ≡ z
     step_one o k = rw (k, o) (last_one rows h (sym e ∙ o) ∙ r)
 
-    pub step-two : (size ≡ 1 → ⊥) → 1 ≤ size → size ≤ 2 → y ≡ two (rows - size) x → down (rows - size) y ≡ z
-    step-two o l m k = let d : size ≡ 2 = omega arith in rw (k, d) (last-two rows h (λ q. o (e ∙ q)) ∙ r)
+    pub step_two : (size ≡ 1 → ⊥) → 1 ≤ size → size ≤ 2 → y ≡ two (rows - size) x → down (rows - size) y ≡ z
+    step_two o l m k = let d : size ≡ 2 = omega arith in rw (k, d) (last-two rows h (λ q. o (e ∙ q)) ∙ r)

@@ -26,6 +26,7 @@ pub trait EachBlock {
 }
 
 // The blocks of a, the last one first.
+#[tactic(auto, using(crate::proofs::Left::le_zero), unfolding(model::specs::Vectors::blocks_down))]
 pub fn blocks_down<B: EachBlock>(a: Leading, each: &B, x: &mut [f64])
     requires { (a.n ≤ B.rows each.now) × B.fits each.now (length x.old) }
     ensures { x.new ≡ Vectors.blocks_down binary64 a.entry.s.ld a.entry.a.now (B.one each.now) (B.two each.now) a.entry.n x.old }
