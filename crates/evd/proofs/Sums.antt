@@ -13,7 +13,7 @@ use Rattle.std.proofs.lemmas.List.{get_or-take, get_or-drop, length-take, length
 use Rattle.model.specs.Form.{at}
 use Rattle.model.specs.Arith.{abs1}
 use Rattle.model.specs.Vectors.{sum_from, rows_to}
-use Rattle.solve.proofs.Left.{left-suc}
+use Rattle.solve.proofs.Left.{left_suc}
 
 -- how many rows of column j are summed
 pub least : (n j : ℕ) → min n (j + 2) ≡ rows_to n j
@@ -30,7 +30,7 @@ pub one_more : (xs : List Float) (i : ℕ) (a m s : Float) → i < length xs →
 unfolding sum_from
 one_more xs i a m s h e r =
     ap (λ (z : Float). sum_from binary64 xs 0 (length xs - (i + 1)) (i + 1) (add binary64 a z)) (e ∙ ap (λ (p : ℕ). abs1 (at xs p)) (sym (zero-add i)))
-    ∙ (rw (left-suc i (length xs) h) at r)
+    ∙ (rw (left_suc i (length xs) h) at r)
 
 module _ (t : List Float) (p count : ℕ) where
   abbrev part : List Float

@@ -18,6 +18,7 @@ use solve::solve_real::solve_real_shifted_upper_quasi_triangular_system;
 use solve::walk::{EachBlock, blocks_down};
 
 // norm plus the magnitudes of the numbers.
+#[tactic(auto, using(crate::proofs::Sums::one_more, solve::proofs::Left::left_none), unfolding(model::specs::Vectors::sum_from))]
 fn add_magnitudes(xs: &[f64], norm: f64) -> f64
     ensures { result ≡ Vectors.sum_from binary64 xs.now 0 (length xs.now) 0 norm }
 {
@@ -42,6 +43,7 @@ fn form_norm(s: Shape, t: &[f64]) -> f64
 }
 
 // `rows` numbers from place p on: those of the form negated.
+#[tactic(auto, using(solve::proofs::Left::left_suc, solve::proofs::Left::left_none), unfolding(model::specs::Vectors::negated_run))]
 fn negate_run(t: &[f64], p: usize, rows: usize, v: &mut [f64])
     requires { (p + rows ≤ length t.now) × (p + rows ≤ length v.old) }
     ensures { v.new ≡ Vectors.negated_run t.now p rows 0 v.old }
@@ -59,6 +61,7 @@ struct Start {
 }
 
 // b above and c below the diagonal, and the imaginary size q.
+#[tactic(auto, unfolding(model::specs::Vectors::start_of))]
 fn start_of(b: f64, c: f64, q: f64) -> Start
     ensures { start result ≡ Vectors.start_of binary64 b c q }
 {
@@ -75,6 +78,7 @@ fn start_of(b: f64, c: f64, q: f64) -> Start
 }
 
 // A 2-block's own four numbers.
+#[tactic(auto, unfolding(model::specs::Vectors::start_block))]
 fn start_block(s: Shape, j: usize, own: Start, v: &mut [f64])
     requires { Holds s v.old × (j + 1 < s.n) }
     ensures { v.new ≡ Vectors.start_block binary64 s.ld j (start own) v.old }
@@ -87,6 +91,7 @@ fn start_block(s: Shape, j: usize, own: Start, v: &mut [f64])
 
 // `count` numbers from place p on, and as many ld further on: those of the form times the negated
 // diagonal numbers.
+#[tactic(auto, using(solve::proofs::Left::left_suc, solve::proofs::Left::left_none), unfolding(model::specs::Vectors::scaled_runs))]
 fn scale_runs(ld: usize, t: &[f64], s: Start, p: usize, count: usize, v: &mut [f64])
     requires { (p + ld + count ≤ length t.now) × (p + ld + count ≤ length v.old) }
     ensures { v.new ≡ Vectors.scaled_runs binary64 ld t.now (start s) p count 0 v.old }
@@ -108,6 +113,7 @@ struct Columns<'a> {
 
 impl Columns<'_> {
     // A 2-block's columns j and j + 1, before the rows above it are solved for; its imaginary size.
+    #[tactic(auto, using(crate::proofs::Places::side_by_side), unfolding(model::specs::Vectors::open_columns))]
     fn open_columns(&self, j: usize, v: &mut [f64]) -> f64
         requires { Holds self.now.s v.old × (j + 1 < self.now.s.n) }
         ensures { (result ≡ imag_size_at binary64 self.now.s.ld self.now.t.now j) × (v.new ≡ Vectors.open_columns binary64 self.now.s.ld self.now.t.now j v.old) }
@@ -133,6 +139,7 @@ impl EachBlock for Columns<'_> {
     ghost two = { λ m. Vectors.cplx_columns binary64 m.s.ld m.t.now m.norm };
 
     // A 1-block's column k: 1 in row k, and above it the solution.
+    #[tactic(auto, using(crate::proofs::Part::put_back), unfolding(model::specs::Vectors::real_column))]
     fn one(&self, k: usize, v: &mut [f64]) {
         let s = self.s;
         let p = s.get(self.t, k, k);
@@ -145,6 +152,7 @@ impl EachBlock for Columns<'_> {
     }
 
     // A 2-block's columns j and j + 1: the real and the imaginary part.
+    #[tactic(auto, using(crate::proofs::Places::side_by_side))]
     fn two(&self, j: usize, v: &mut [f64]) {
         let s = self.s;
         let q = self.open_columns(j, &mut *v);
@@ -157,6 +165,7 @@ impl EachBlock for Columns<'_> {
 }
 
 // The vectors of the form t, or the first line that applies.
+#[tactic(auto, using(crate::proofs::Lines::vectors_first), unfolding(model::specs::Vectors::evd_from_real_schur, model::specs::Vectors::vectors_of))]
 pub fn evd_from_real_schur(n: usize, ld: usize, t: &[f64], v: &mut [f64]) -> Result<(), Refusal>
     ensures { (record { answer = answer result; v = v.new }) ≡ Vectors.evd_from_real_schur binary64 ld n t.now v.old }
 {

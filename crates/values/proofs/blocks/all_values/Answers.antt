@@ -4,7 +4,7 @@ use native.Mathlib.Nat.{sub-zero}
 use native.Mathlib.Omega.{arith}
 use Rattle.model.specs.Values.{values_from}
 use Rattle.form.proofs.Above.{inside_block}
-use Rattle.solve.proofs.Left.{left-none}
+use Rattle.solve.proofs.Left.{left_none}
 use Rattle.values.proofs.Ups.{next_one, next-two}
 use borrow.Author.Rules.{rules}
 use Rattle.values.proofs.blocks.all_values.Goals as goal
@@ -14,7 +14,7 @@ loop-j-init g c = (search rules, refl, refl, rw sub-zero)
 
 pub returns : goal.returns
 unfolding values_from
-returns g c = rw (left-none _ _ c.loop-j-test.false) at c.loop-j.invariant.3
+returns g c = rw (left_none _ _ c.loop-j-test.false) at c.loop-j.invariant.3
 
 pub two_values-requires : goal.two_values-requires
 two_values-requires g c =
