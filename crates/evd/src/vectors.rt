@@ -30,6 +30,7 @@ fn add_magnitudes(xs: &[f64], norm: f64) -> f64
 }
 
 // The sum of magnitudes, column after column, each down to the subdiagonal.
+#[tactic(auto, using(solve::proofs::Left::left_none), unfolding(model::specs::Vectors::form_norm, model::specs::Vectors::norm_columns))]
 fn form_norm(s: Shape, t: &[f64]) -> f64
     requires { Holds s t.now }
     ensures { result ≡ Vectors.form_norm binary64 s.ld s.n t.now }
