@@ -37,6 +37,6 @@ module _ (rd : Reading) (ld : ℕ) (t : List Float) (n j : ℕ) (s : Parts) wher
         | no p ↦ let l : j + 1 < n = omega arith in more l (rw (lt-ltb _ _ l) at z)
       ]
 
-  pub next-two : two_block binary64 ld n t j ≡ true → from (j + 2) (two_values binary64 rd ld t j s) ≡ from j s
+  pub next_two : two_block binary64 ld n t j ≡ true → from (j + 2) (two_values binary64 rd ld t j s) ≡ from j s
   unfolding values_from two_block
-  next-two z = rw (left_two j n (inside_block ld n t j z), second (ltb (j + 1) n) (nonzero_below binary64 ld t j) z)
+  next_two z = rw (left_two j n (inside_block ld n t j z), second (ltb (j + 1) n) (nonzero_below binary64 ld t j) z)
