@@ -1,3 +1,4 @@
 pub mod Lines
 pub mod Part
 pub mod Places
+pub mod Sums

@@ -12,43 +12,39 @@ use form::deep::quasi_triangular;
 use form::shape::Shape;
 use refusal::Refusal;
 use solve::block::imag_size;
+use solve::leading::Leading;
 use solve::solve_cplx::solve_cplx_shifted_upper_quasi_triangular_system;
 use solve::solve_real::solve_real_shifted_upper_quasi_triangular_system;
 use solve::walk::{EachBlock, blocks_down};
 
-// norm plus the magnitudes of `count` numbers from place p on.
-fn add_magnitudes(t: &[f64], p: usize, count: usize, norm: f64) -> f64
-    requires { p + count ≤ length t.now }
-    ensures { result ≡ Vectors.sum_from binary64 t.now p count 0 norm }
+// norm plus the magnitudes of the numbers.
+#[tactic(auto, using(crate::proofs::Sums::one_more, solve::proofs::Left::left_none), unfolding(model::specs::Vectors::sum_from))]
+fn add_magnitudes(xs: &[f64], norm: f64) -> f64
+    ensures { result ≡ Vectors.sum_from binary64 xs.now 0 (length xs.now) 0 norm }
 {
     let mut acc = norm;
-    for i in 0..count {
-        acc += abs1(t[p + i]);
+    for x in xs {
+        acc += abs1(*x);
     }
     acc
 }
 
-// How many rows of column j are summed: down to the subdiagonal.
-fn rows_to(n: usize, j: usize) -> usize
-    requires { (n ≤ 64) × (j < n) }
-    ensures { (result ≡ Vectors.rows_to n j) × (result ≤ n) }
-{
-    if j + 2 < n { j + 2 } else { n }
-}
-
-// The sum of magnitudes, column after column.
+// The sum of magnitudes, column after column, each down to the subdiagonal.
+#[tactic(auto, using(solve::proofs::Left::left_none), unfolding(model::specs::Vectors::form_norm, model::specs::Vectors::norm_columns))]
 fn form_norm(s: Shape, t: &[f64]) -> f64
     requires { Holds s t.now }
     ensures { result ≡ Vectors.form_norm binary64 s.ld s.n t.now }
 {
     let mut norm = 0.0;
     for j in 0..s.n {
-        norm = add_magnitudes(t, s.place(0, j), rows_to(s.n, j), norm);
+        let top = s.place(0, j);
+        norm = add_magnitudes(&t[top..top + s.n.min(j + 2)], norm);
     }
     norm
 }
 
 // `rows` numbers from place p on: those of the form negated.
+#[tactic(auto, using(solve::proofs::Left::left_suc, solve::proofs::Left::left_none), unfolding(model::specs::Vectors::negated_run))]
 fn negate_run(t: &[f64], p: usize, rows: usize, v: &mut [f64])
     requires { (p + rows ≤ length t.now) × (p + rows ≤ length v.old) }
     ensures { v.new ≡ Vectors.negated_run t.now p rows 0 v.old }
@@ -66,6 +62,7 @@ struct Start {
 }
 
 // b above and c below the diagonal, and the imaginary size q.
+#[tactic(auto, unfolding(model::specs::Vectors::start_of))]
 fn start_of(b: f64, c: f64, q: f64) -> Start
     ensures { start result ≡ Vectors.start_of binary64 b c q }
 {
@@ -82,6 +79,7 @@ fn start_of(b: f64, c: f64, q: f64) -> Start
 }
 
 // A 2-block's own four numbers.
+#[tactic(auto, unfolding(model::specs::Vectors::start_block))]
 fn start_block(s: Shape, j: usize, own: Start, v: &mut [f64])
     requires { Holds s v.old × (j + 1 < s.n) }
     ensures { v.new ≡ Vectors.start_block binary64 s.ld j (start own) v.old }
@@ -94,6 +92,7 @@ fn start_block(s: Shape, j: usize, own: Start, v: &mut [f64])
 
 // `count` numbers from place p on, and as many ld further on: those of the form times the negated
 // diagonal numbers.
+#[tactic(auto, using(solve::proofs::Left::left_suc, solve::proofs::Left::left_none), unfolding(model::specs::Vectors::scaled_runs))]
 fn scale_runs(ld: usize, t: &[f64], s: Start, p: usize, count: usize, v: &mut [f64])
     requires { (p + ld + count ≤ length t.now) × (p + ld + count ≤ length v.old) }
     ensures { v.new ≡ Vectors.scaled_runs binary64 ld t.now (start s) p count 0 v.old }
@@ -115,6 +114,7 @@ struct Columns<'a> {
 
 impl Columns<'_> {
     // A 2-block's columns j and j + 1, before the rows above it are solved for; its imaginary size.
+    #[tactic(auto, using(crate::proofs::Places::side_by_side), unfolding(model::specs::Vectors::open_columns))]
     fn open_columns(&self, j: usize, v: &mut [f64]) -> f64
         requires { Holds self.now.s v.old × (j + 1 < self.now.s.n) }
         ensures { (result ≡ imag_size_at binary64 self.now.s.ld self.now.t.now j) × (v.new ≡ Vectors.open_columns binary64 self.now.s.ld self.now.t.now j v.old) }
@@ -140,28 +140,33 @@ impl EachBlock for Columns<'_> {
     ghost two = { λ m. Vectors.cplx_columns binary64 m.s.ld m.t.now m.norm };
 
     // A 1-block's column k: 1 in row k, and above it the solution.
+    #[tactic(auto, using(crate::proofs::Part::put_back), unfolding(model::specs::Vectors::real_column))]
     fn one(&self, k: usize, v: &mut [f64]) {
         let s = self.s;
         let p = s.get(self.t, k, k);
         s.put(&mut *v, k, k, 1.0);
         let top = s.place(0, k);
         negate_run(self.t, top, k, &mut *v);
+        let a = Leading { s, a: self.t, n: k };
         let x = &mut v[top..top + k];
-        solve_real_shifted_upper_quasi_triangular_system(s, self.t, k, p, self.norm, x);
+        solve_real_shifted_upper_quasi_triangular_system(a, p, self.norm, x);
     }
 
     // A 2-block's columns j and j + 1: the real and the imaginary part.
+    #[tactic(auto, using(crate::proofs::Places::side_by_side))]
     fn two(&self, j: usize, v: &mut [f64]) {
         let s = self.s;
         let q = self.open_columns(j, &mut *v);
         let p = s.get(self.t, j + 1, j + 1);
         let top = s.place(0, j);
+        let a = Leading { s, a: self.t, n: j };
         let x = &mut v[top..top + (s.ld + j)];
-        solve_cplx_shifted_upper_quasi_triangular_system(s, self.t, j, p, q, self.norm, x);
+        solve_cplx_shifted_upper_quasi_triangular_system(a, p, q, self.norm, x);
     }
 }
 
 // The vectors of the form t, or the first line that applies.
+#[tactic(auto, using(crate::proofs::Lines::vectors_first), unfolding(model::specs::Vectors::evd_from_real_schur, model::specs::Vectors::vectors_of))]
 pub fn evd_from_real_schur(n: usize, ld: usize, t: &[f64], v: &mut [f64]) -> Result<(), Refusal>
     ensures { (record { answer = answer result; v = v.new }) ≡ Vectors.evd_from_real_schur binary64 ld n t.now v.old }
 {
@@ -170,11 +175,7 @@ pub fn evd_from_real_schur(n: usize, ld: usize, t: &[f64], v: &mut [f64]) -> Res
         return Err(Refusal::BufferLength);
     }
     quasi_triangular(s, t)?;
-    let columns = Columns {
-        s,
-        t,
-        norm: form_norm(s, t),
-    };
-    blocks_down(s, t, &columns, s.n, v);
+    let norm = form_norm(s, t);
+    blocks_down(Leading { s, a: t, n: s.n }, &Columns { s, t, norm }, v);
     Ok(())
 }

@@ -45,7 +45,7 @@ module _ (f : Format) (ld : ℕ) (a : List Float) (one two : ℕ → List Float 
   single rows e = rw e
 
   -- the last of so many rows is a 1-block
-  pub last_one : (rows : ℕ) → 0 < rows → size_above f ld a rows ≡ 1 → down (rows - 1) (one (rows - 1) x) ≡ down rows x
+  last_one : (rows : ℕ) → 0 < rows → size_above f ld a rows ≡ 1 → down (rows - 1) (one (rows - 1) x) ≡ down rows x
   unfolding blocks_down
   last_one rows h e =
       elim (ℕ_discrete rows 1) [
@@ -57,7 +57,7 @@ module _ (f : Format) (ld : ℕ) (a : List Float) (one two : ℕ → List Float 
       many l = let e₁ : rows - 1 ≡ rows - 2 + 1 = omega arith in ap (λ (k : ℕ). down k (one k x)) e₁ ∙ one_more (rows - 2) (one-is _ (sym (above rows l) ∙ e)) ∙ from-two rows l
 
   -- the last two are a 2-block
-  pub last-two : (rows : ℕ) → 0 < rows → (size_above f ld a rows ≡ 1 → ⊥) → down (rows - 2) (two (rows - 2) x) ≡ down rows x
+  last-two : (rows : ℕ) → 0 < rows → (size_above f ld a rows ≡ 1 → ⊥) → down (rows - 2) (two (rows - 2) x) ≡ down rows x
   last-two rows h e =
       elim (ℕ_discrete rows 1) [
         | yes p ↦ absurd (e (single rows p))
@@ -66,3 +66,11 @@ module _ (f : Format) (ld : ℕ) (a : List Float) (one two : ℕ → List Float 
     where
       many : 2 ≤ rows → down (rows - 2) (two (rows - 2) x) ≡ down rows x
       many l = two-more (rows - 2) (two_is _ (λ q. e (above rows l ∙ q))) ∙ from-two rows l
+
+  -- of so many rows the last block, by the size that the code finds, and what the rest then gives
+  module _ (rows size : ℕ) (h : 0 < rows) (e : size ≡ size_above f ld a rows) (y z : List Float) (r : down rows x ≡ z) where
+    pub step_one : size ≡ 1 → y ≡ one (rows - size) x → down (rows - size) y ≡ z
+    step_one o k = rw (k, o) (last_one rows h (sym e ∙ o) ∙ r)
+
+    pub step_two : (size ≡ 1 → ⊥) → 1 ≤ size → size ≤ 2 → y ≡ two (rows - size) x → down (rows - size) y ≡ z
+    step_two o l m k = let d : size ≡ 2 = omega arith in rw (k, d) (last-two rows h (λ q. o (e ∙ q)) ∙ r)

@@ -8,6 +8,7 @@ ghost use Rattle.solve.specs.Numbers.{numbers};
 use crate::strided::Strided;
 
 // From +0, left to right.
+#[tactic(auto, using(crate::proofs::Sums::all, crate::proofs::Sums::next, crate::proofs::Sums::done))]
 pub fn inner_prod(lhs: Strided, rhs: Strided) -> f64
     requires { rhs.count ≡ lhs.count }
     ensures { result ≡ inner_prod binary64 (numbers lhs.entry) (numbers rhs.entry) lhs.entry.count }
@@ -20,6 +21,7 @@ pub fn inner_prod(lhs: Strided, rhs: Strided) -> f64
 }
 
 // Two rows of lhs with rhs: even and odd places apart, added last.
+#[tactic(auto, using(crate::proofs::Sums::halves_all, crate::proofs::Sums::halves_next, crate::proofs::Sums::halves_last, crate::proofs::Sums::halves_done))]
 pub fn dot2x1(lhs0: Strided, lhs1: Strided, rhs: Strided) -> (f64, f64)
     requires { (lhs1.count ≡ lhs0.count) × (rhs.count ≡ lhs0.count) }
     ensures { (result.0 ≡ split_prod binary64 (numbers lhs0.entry) (numbers rhs.entry) lhs0.entry.count) × (result.1 ≡ split_prod binary64 (numbers lhs1.entry) (numbers rhs.entry) lhs0.entry.count) }
@@ -44,6 +46,7 @@ pub fn dot2x1(lhs0: Strided, lhs1: Strided, rhs: Strided) -> (f64, f64)
 }
 
 // Two rows of lhs with two of rhs, each from +0, left to right: the two of lhs with rhs0, then with rhs1.
+#[tactic(auto, using(crate::proofs::Sums::all, crate::proofs::Sums::next, crate::proofs::Sums::done))]
 pub fn dot2x2(lhs0: Strided, lhs1: Strided, rhs0: Strided, rhs1: Strided) -> (f64, f64, f64, f64)
     requires { (lhs1.count ≡ lhs0.count) × (rhs0.count ≡ lhs0.count) × (rhs1.count ≡ lhs0.count) }
     ensures { (result.0 ≡ inner_prod binary64 (numbers lhs0.entry) (numbers rhs0.entry) lhs0.entry.count) × (result.1 ≡ inner_prod binary64 (numbers lhs1.entry) (numbers rhs0.entry) lhs0.entry.count) × (result.2 ≡ inner_prod binary64 (numbers lhs0.entry) (numbers rhs1.entry) lhs0.entry.count) × (result.3 ≡ inner_prod binary64 (numbers lhs1.entry) (numbers rhs1.entry) lhs0.entry.count) }

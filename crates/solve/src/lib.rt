@@ -4,7 +4,7 @@
 pub mod block;
 mod complex;
 mod dots;
-mod leading;
+pub mod leading;
 pub mod solve_cplx;
 pub mod solve_real;
 mod strided;

@@ -2,8 +2,8 @@
 // column and the imaginary parts in the next, ld further.
 ghost use Rattle.std.specs.Prelude.{◌≡◌, ◌+◌, ◌<◌, ◌≤◌, length};
 ghost use Rattle.std.specs.Float.{binary64};
+ghost use Rattle.model.specs.Form.{at};
 ghost use Rattle.model.specs.Vectors as Vectors;
-ghost use Rattle.form.specs.Shaped.{Holds};
 ghost use Rattle.solve.specs.View.{complex, rows};
 ghost use Rattle.std.specs.Float.Ieee.{neg, sub};
 
@@ -12,7 +12,6 @@ use crate::dots::{dot2x1, dot2x2};
 use crate::leading::Leading;
 use crate::strided::Strided;
 use crate::walk::{EachBlock, blocks_down};
-use form::shape::Shape;
 
 // Two rows.
 #[derive(Clone, Copy)]
@@ -33,16 +32,6 @@ fn solve_pair(s: Complex, b: f64, c: f64, r: Rows, norm: f64) -> Rows
     }
 }
 
-// Row i of the two columns set.
-#[tactic(auto, unfolding(model::specs::Vectors::complex_set))]
-fn put(ld: usize, i: usize, w: Complex, x: &mut [f64])
-    requires { (ld ≤ 128) × (i < 64) × (ld + i < length x.old) }
-    ensures { x.new ≡ Vectors.complex_set ld x.old i (complex w) }
-{
-    x[i] = w.re;
-    x[ld + i] = w.im;
-}
-
 // A - p - q i.
 #[derive(Clone, Copy)]
 struct Shifted<'a> {
@@ -53,6 +42,27 @@ struct Shifted<'a> {
 }
 
 impl Shifted<'_> {
+    // Row i of the two columns.
+    fn at(&self, i: usize, x: &[f64]) -> Complex
+        requires { (i < self.now.a.n) × (self.now.a.s.ld + self.now.a.n ≤ length x.now) }
+        ensures { (result.re ≡ at x.now i) × (result.im ≡ at x.now (self.now.a.s.ld + i)) }
+    {
+        Complex {
+            re: x[i],
+            im: x[self.a.s.ld + i],
+        }
+    }
+
+    // Row i of the two columns set.
+    #[tactic(auto, unfolding(model::specs::Vectors::complex_set))]
+    fn put(&self, i: usize, w: Complex, x: &mut [f64])
+        requires { (i < self.now.a.n) × (self.now.a.s.ld + self.now.a.n ≤ length x.old) }
+        ensures { x.new ≡ Vectors.complex_set self.now.a.s.ld x.old i (complex w) }
+    {
+        x[i] = w.re;
+        x[self.a.s.ld + i] = w.im;
+    }
+
     // What stands on the diagonal where A has d.
     fn shifted(&self, d: f64) -> Complex
         ensures { complex result ≡ record { re = sub binary64 d self.now.p; im = neg self.now.q } }
@@ -64,6 +74,7 @@ impl Shifted<'_> {
     }
 
     // Rows i and i + 1 less their inner products with the rows below.
+    #[tactic(auto, unfolding(model::specs::Vectors::cplx_rest))]
     fn rest_of(&self, i: usize, x: &[f64]) -> Rows
         requires { (i + 1 < self.now.a.n) × (self.now.a.s.ld + self.now.a.n ≤ length x.now) }
         ensures { (complex result.upper ≡ Vectors.cplx_rest binary64 self.now.a.s.ld self.now.a.a.now self.now.a.n x.now i (i + 2)) × (complex result.lower ≡ Vectors.cplx_rest binary64 self.now.a.s.ld self.now.a.a.now self.now.a.n x.now (i + 1) (i + 2)) }
@@ -71,28 +82,20 @@ impl Shifted<'_> {
         let a = self.a;
         let ld = a.s.ld;
         let count = a.n - (i + 2);
-        let re = Strided {
-            list: x,
-            start: i + 2,
-            step: 1,
-            count,
-        };
-        let im = Strided {
-            list: x,
-            start: ld + (i + 2),
-            step: 1,
-            count,
-        };
+        let re = Strided::run(x, i + 2, count);
+        let im = Strided::run(x, ld + (i + 2), count);
         let dot = dot2x2(a.row(i, i + 2), a.row(i + 1, i + 2), re, im);
+        let upper = Complex {
+            re: dot.0,
+            im: dot.2,
+        };
+        let lower = Complex {
+            re: dot.1,
+            im: dot.3,
+        };
         Rows {
-            upper: Complex {
-                re: x[i] - dot.0,
-                im: x[ld + i] - dot.2,
-            },
-            lower: Complex {
-                re: x[i + 1] - dot.1,
-                im: x[ld + (i + 1)] - dot.3,
-            },
+            upper: self.at(i, x) - upper,
+            lower: self.at(i + 1, x) - lower,
         }
     }
 }
@@ -106,57 +109,44 @@ impl EachBlock for Shifted<'_> {
 
     ghost two = { λ m. Vectors.cplx_two binary64 m.a.s.ld m.a.a.now m.p m.q m.norm m.a.n };
 
+    #[tactic(auto, unfolding(model::specs::Vectors::cplx_one))]
     fn one(&self, i: usize, x: &mut [f64]) {
         let a = self.a;
         let ld = a.s.ld;
         let count = a.n - (i + 1);
-        let re = Strided {
-            list: &*x,
-            start: i + 1,
-            step: 1,
-            count,
-        };
-        let im = Strided {
-            list: &*x,
-            start: ld + (i + 1),
-            step: 1,
-            count,
-        };
+        let re = Strided::run(&*x, i + 1, count);
+        let im = Strided::run(&*x, ld + (i + 1), count);
         let dot = dot2x1(re, im, a.row(i, i + 1));
-        let r = Complex {
-            re: x[i] - dot.0,
-            im: x[ld + i] - dot.1,
+        let below = Complex {
+            re: dot.0,
+            im: dot.1,
         };
+        let r = self.at(i, &*x) - below;
         let z = self.shifted(a.get(i, i));
-        put(ld, i, r * z.inverse(self.norm), x);
+        self.put(i, r * z.inverse(self.norm), x);
     }
 
+    #[tactic(auto, unfolding(model::specs::Vectors::cplx_two))]
     fn two(&self, i: usize, x: &mut [f64]) {
-        let a = self.a;
-        let ld = a.s.ld;
         let r = self.rest_of(i, &*x);
-        let k = a.block(i);
+        let k = self.a.block(i);
         let y = solve_pair(self.shifted(k.d), k.b, k.c, r, self.norm);
-        put(ld, i, y.upper, &mut *x);
-        put(ld, i + 1, y.lower, x);
+        self.put(i, y.upper, &mut *x);
+        self.put(i + 1, y.lower, x);
     }
 }
 
-// A is the first n rows and columns of the form a.
+// What is sought stands in x after it, where b stood.
 #[tactic(auto, unfolding(model::specs::Vectors::solve_cplx))]
 pub fn solve_cplx_shifted_upper_quasi_triangular_system(
-    s: Shape,
-    a: &[f64],
-    n: usize,
+    a: Leading,
     p: f64,
     q: f64,
     norm: f64,
     x: &mut [f64],
 )
-    requires { Holds s a.now × (n ≤ s.n) × (s.ld + n ≤ length x.old) }
-    ensures { x.new ≡ Vectors.solve_cplx binary64 s.ld a.now p q norm n x.old }
+    requires { a.s.ld + a.n ≤ length x.old }
+    ensures { x.new ≡ Vectors.solve_cplx binary64 a.entry.s.ld a.entry.a.now p q norm a.entry.n x.old }
 {
-    let a = Leading { s, a, n };
-    let m = Shifted { a, p, q, norm };
-    blocks_down(s, a.a, &m, n, x);
+    blocks_down(a, &Shifted { a, p, q, norm }, x);
 }

@@ -2,14 +2,12 @@
 ghost use Rattle.std.specs.Prelude.{◌≡◌, ◌<◌, ◌≤◌, length};
 ghost use Rattle.std.specs.Float.{binary64};
 ghost use Rattle.model.specs.Vectors as Vectors;
-ghost use Rattle.form.specs.Shaped.{Holds};
 
 use crate::dots::{dot2x1, inner_prod};
 use crate::leading::Leading;
 use crate::strided::Strided;
 use crate::walk::{EachBlock, blocks_down};
 use arith::real::{EPS, abs, abs2, recip};
-use form::shape::Shape;
 
 // The divisor, or eps * norm where it is below that in magnitude.
 #[tactic(auto, unfolding(model::specs::Vectors::divisor))]
@@ -44,14 +42,10 @@ impl EachBlock for Shifted<'_> {
 
     ghost two = { λ m. Vectors.real_two binary64 m.a.s.ld m.a.a.now m.p m.a.n };
 
+    #[tactic(auto, unfolding(model::specs::Vectors::real_one))]
     fn one(&self, i: usize, x: &mut [f64]) {
         let a = self.a;
-        let rest = Strided {
-            list: &*x,
-            start: i + 1,
-            step: 1,
-            count: a.n - (i + 1),
-        };
+        let rest = Strided::run(&*x, i + 1, a.n - (i + 1));
         let dot = inner_prod(a.row(i, i + 1), rest);
         let z = divisor(a.get(i, i) - self.p, self.norm);
         let r = x[i] - dot;
@@ -59,14 +53,10 @@ impl EachBlock for Shifted<'_> {
     }
 
     // The diagonal number of the lower row serves for both.
+    #[tactic(auto, unfolding(model::specs::Vectors::real_two))]
     fn two(&self, i: usize, x: &mut [f64]) {
         let a = self.a;
-        let rest = Strided {
-            list: &*x,
-            start: i + 2,
-            step: 1,
-            count: a.n - (i + 2),
-        };
+        let rest = Strided::run(&*x, i + 2, a.n - (i + 2));
         let (dot0, dot1) = dot2x1(a.row(i, i + 2), a.row(i + 1, i + 2), rest);
         let r0 = x[i] - dot0;
         let r1 = x[i + 1] - dot1;
@@ -78,20 +68,16 @@ impl EachBlock for Shifted<'_> {
     }
 }
 
-// A is the first n rows and columns of the form a.
+// What is sought stands in x after it, where b stood.
 #[tactic(auto, unfolding(model::specs::Vectors::solve_real))]
 pub fn solve_real_shifted_upper_quasi_triangular_system(
-    s: Shape,
-    a: &[f64],
-    n: usize,
+    a: Leading,
     p: f64,
     norm: f64,
     x: &mut [f64],
 )
-    requires { Holds s a.now × (n ≤ s.n) × (n ≤ length x.old) }
-    ensures { x.new ≡ Vectors.solve_real binary64 s.ld a.now p norm n x.old }
+    requires { a.n ≤ length x.old }
+    ensures { x.new ≡ Vectors.solve_real binary64 a.entry.s.ld a.entry.a.now p norm a.entry.n x.old }
 {
-    let a = Leading { s, a, n };
-    let m = Shifted { a, p, norm };
-    blocks_down(s, a.a, &m, n, x);
+    blocks_down(a, &Shifted { a, p, norm }, x);
 }

@@ -1,7 +1,7 @@
 // Numbers that stand a step apart in a list.
-ghost use Rattle.std.specs.Prelude.{◌≡◌, ◌+◌, ◌*◌, ◌<◌, length};
+ghost use Rattle.std.specs.Prelude.{◌≡◌, ◌+◌, ◌*◌, ◌<◌, ◌≤◌, length};
 
-// `count` numbers from place `start` on.
+// `count` numbers from place `start` on, `step` places apart.
 #[derive(Clone, Copy)]
 pub struct Strided<'a> {
     pub list: &'a [f64],
@@ -11,8 +11,21 @@ pub struct Strided<'a> {
     ghost inside: { start + step * count < length list.now + step },
 }
 
-impl Strided<'_> {
+impl<'a> Strided<'a> {
     ghost use Rattle.solve.specs.Numbers.{numbers};
+
+    // Those side by side.
+    pub fn run(list: &'a [f64], start: usize, count: usize) -> Strided<'a>
+        requires { start + count ≤ length list.now }
+        ensures { (result.list.now ≡ list.now) × (result.start ≡ start) × (result.step ≡ 1) × (result.count ≡ count) }
+    {
+        Strided {
+            list,
+            start,
+            step: 1,
+            count,
+        }
+    }
 
     // The k-th of them.
     pub fn at(self, k: usize) -> f64

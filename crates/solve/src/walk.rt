@@ -2,9 +2,8 @@
 ghost use Rattle.std.specs.Prelude.{◌≡◌, ℕ, ◌+◌, ◌<◌, ◌≤◌, List, length, Float};
 ghost use Rattle.std.specs.Float.{binary64};
 ghost use Rattle.model.specs.Vectors as Vectors;
-ghost use Rattle.form.specs.Shaped.{Holds};
 
-use form::shape::Shape;
+use crate::leading::Leading;
 
 // What is done to a list at each block: at a 1-block's row, and at a 2-block's first row.
 pub trait EachBlock {
@@ -26,14 +25,15 @@ pub trait EachBlock {
         ensures { x.new ≡ two self.now i x.old };
 }
 
-// The blocks of the first `rows` rows of the form a.
-pub fn blocks_down<B: EachBlock>(s: Shape, a: &[f64], each: &B, rows: usize, x: &mut [f64])
-    requires { Holds s a.now × (rows ≤ s.n) × (rows ≤ B.rows each.now) × B.fits each.now (length x.old) }
-    ensures { x.new ≡ Vectors.blocks_down binary64 s.ld a.now (B.one each.now) (B.two each.now) rows x.old }
+// The blocks of a, the last one first.
+#[tactic(auto, using(crate::proofs::Left::le_zero), unfolding(model::specs::Vectors::blocks_down))]
+pub fn blocks_down<B: EachBlock>(a: Leading, each: &B, x: &mut [f64])
+    requires { (a.n ≤ B.rows each.now) × B.fits each.now (length x.old) }
+    ensures { x.new ≡ Vectors.blocks_down binary64 a.entry.s.ld a.entry.a.now (B.one each.now) (B.two each.now) a.entry.n x.old }
 {
-    let mut left = rows;
+    let mut left = a.n;
     while 0 < left {
-        let size = s.size_above(a, left);
+        let size = a.s.size_above(a.a, left);
         left -= size;
         if size == 1 {
             each.one(left, &mut *x);

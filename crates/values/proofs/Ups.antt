@@ -11,7 +11,7 @@ use lib.Ieee.{Float, binary64}
 use Rattle.model.specs.Form.{two_block, nonzero_below}
 use Rattle.model.specs.Values.{Reading, Parts, one_value, two_values, values_from}
 use Rattle.form.proofs.Above.{inside_block}
-use Rattle.solve.proofs.Left.{left-two, left_one, left-none}
+use Rattle.solve.proofs.Left.{left_two, left_one, left_none}
 
 second : (a b : Bool) → (a && b) ≡ true → b ≡ true
 second true b h = h
@@ -23,11 +23,11 @@ module _ (rd : Reading) (ld : ℕ) (t : List Float) (n j : ℕ) (s : Parts) wher
 
   last_one : j + 1 ≡ n → from (j + 1) (one_value binary64 ld t j s) ≡ from j s
   unfolding values_from
-  last_one h = rw (left_one j n h, left-none (j + 1) n (omega arith))
+  last_one h = rw (left_one j n h, left_none (j + 1) n (omega arith))
 
   more : j + 1 < n → nonzero_below binary64 ld t j ≡ false → from (j + 1) (one_value binary64 ld t j s) ≡ from j s
   unfolding values_from
-  more h z = let e : n - (j + 1) ≡ suc (n - (j + 2)) = omega arith in rw (left-two j n h, z, e)
+  more h z = let e : n - (j + 1) ≡ suc (n - (j + 2)) = omega arith in rw (left_two j n h, z, e)
 
   pub next_one : j < n → two_block binary64 ld n t j ≡ false → from (j + 1) (one_value binary64 ld t j s) ≡ from j s
   unfolding two_block
@@ -37,6 +37,6 @@ module _ (rd : Reading) (ld : ℕ) (t : List Float) (n j : ℕ) (s : Parts) wher
         | no p ↦ let l : j + 1 < n = omega arith in more l (rw (lt-ltb _ _ l) at z)
       ]
 
-  pub next-two : two_block binary64 ld n t j ≡ true → from (j + 2) (two_values binary64 rd ld t j s) ≡ from j s
+  pub next_two : two_block binary64 ld n t j ≡ true → from (j + 2) (two_values binary64 rd ld t j s) ≡ from j s
   unfolding values_from two_block
-  next-two z = rw (left-two j n (inside_block ld n t j z), second (ltb (j + 1) n) (nonzero_below binary64 ld t j) z)
+  next_two z = rw (left_two j n (inside_block ld n t j z), second (ltb (j + 1) n) (nonzero_below binary64 ld t j) z)

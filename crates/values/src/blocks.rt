@@ -13,6 +13,7 @@ use refusal::Refusal;
 use schur22::lahqr_schur22::Values;
 
 // A 1-block in row j: its diagonal number and +0.
+#[tactic(auto, unfolding(model::specs::Values::one_value))]
 fn one_value(s: Shape, t: &[f64], j: usize, re: &mut [f64], im: &mut [f64])
     requires { Holds s t.now × (length re.old ≡ s.n) × (length im.old ≡ s.n) × (j < s.n) }
     ensures { (record { re = re.new; im = im.new }) ≡ Spec.one_value binary64 s.ld t.now j (record { re = re.old; im = im.old }) }
@@ -22,6 +23,7 @@ fn one_value(s: Shape, t: &[f64], j: usize, re: &mut [f64], im: &mut [f64])
 }
 
 // A 2-block in rows j and j + 1: the values of its pair.
+#[tactic(auto, unfolding(model::specs::Values::two_values))]
 fn two_values<R: Reading>(s: Shape, t: &[f64], j: usize, re: &mut [f64], im: &mut [f64])
     requires { Holds s t.now × (length re.old ≡ s.n) × (length im.old ≡ s.n) × (j + 1 < s.n) }
     ensures { (record { re = re.new; im = im.new }) ≡ Spec.two_values binary64 R.read s.ld t.now j (record { re = re.old; im = im.old }) }
@@ -38,6 +40,7 @@ fn two_values<R: Reading>(s: Shape, t: &[f64], j: usize, re: &mut [f64], im: &mu
 }
 
 // The values of an accepted form.
+#[tactic(auto, using(crate::proofs::Ups::next_one, crate::proofs::Ups::next_two, form::proofs::Above::inside_block, solve::proofs::Left::left_none), unfolding(model::specs::Values::values_from))]
 fn all_values<R: Reading>(s: Shape, t: &[f64], re: &mut [f64], im: &mut [f64])
     requires { Holds s t.now × (length re.old ≡ s.n) × (length im.old ≡ s.n) }
     ensures { (record { re = re.new; im = im.new }) ≡ Spec.values_from binary64 R.read s.ld t.now s.n 0 (record { re = re.old; im = im.old }) }
@@ -55,6 +58,7 @@ fn all_values<R: Reading>(s: Shape, t: &[f64], re: &mut [f64], im: &mut [f64])
 }
 
 // The values by a reading, or the first line that applies.
+#[tactic(auto, using(crate::proofs::Lines::values_first, crate::proofs::Lines::misfit, crate::proofs::Lines::fit, refusal::proofs::Told::told), unfolding(model::specs::Values::values_read))]
 pub fn values_read<R: Reading>(
     n: usize,
     ld: usize,

@@ -1,17 +1,10 @@
 -- `evd::vectors::ColumnsEachBlock::two` meets its contract. Assumes nothing.
 use mathlib.Core.Path.{◌∙◌}
 use native.Mathlib.Nat.{zero-add}
-use native.Mathlib.Omega.{arith}
 use lib.Ieee.{binary64}
 use Rattle.model.specs.Vectors.{solve_cplx, cplx_columns}
 use Rattle.evd.proofs.Part.{put_back}
-use Rattle.evd.proofs.Places.{side_by_side}
 use Rattle.evd.proofs.vectors.ColumnsEachBlock.two.Goals as goal
-
-pub slice_bounds-x-end : goal.slice_bounds-x-end
-slice_bounds-x-end c =
-    let s = c.args.self.now.s in
-    omega (arith, side_by_side s.ld s.n c.args.j c.requires.0 s.fits, c.place-top.ensures.0, c.requires.1, c.open_columns-q.auto.v)
 
 pub returns : goal.returns
 unfolding cplx_columns
