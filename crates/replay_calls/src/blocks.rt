@@ -5,7 +5,7 @@ ghost use Rattle.replay_calls.specs.Lines as Lines;
 use bits::float::float_of;
 use replay_text::float::is_word;
 use replay_text::outcome::{Outcome, judge};
-use schur22::lahqr_schur22::values_of;
+use schur22::lahqr_schur22::Values;
 
 // The rows of four words, column after column.
 fn square(a: u64, c: u64, b: u64, d: u64) -> [[f64; 2]; 2]
@@ -24,7 +24,7 @@ pub fn lahqr_schur22(w: &[u64]) -> Outcome
     };
     let s = schur22::lahqr_schur22::lahqr_schur22(float_of(p), float_of(q), float_of(r), float_of(s));
     let x = s.block;
-    let v = values_of(s.eigenvalues);
+    let v = Values::from(s.eigenvalues);
     judge(
         is_word(x.a, a)
             && is_word(x.b, b)
@@ -48,10 +48,10 @@ pub fn lasy2(w: &[u64]) -> Outcome
     };
     let s = sylvester::lasy2::lasy2(square(a, b, c, d), square(e, f, g, h), square(i, j, k, l));
     judge(
-        is_word(s.x00, x00)
-            && is_word(s.x10, x10)
-            && is_word(s.x01, x01)
-            && is_word(s.x11, x11)
+        is_word(s.x[0], x00)
+            && is_word(s.x[1], x10)
+            && is_word(s.x[2], x01)
+            && is_word(s.x[3], x11)
             && is_word(s.scale, scale),
     )
 }

@@ -5,7 +5,7 @@ ghost use Rattle.model.specs.Schur22 as Schur22;
 ghost use Rattle.model.specs.Lasy2 as Lasy2;
 ghost use Rattle.volmeixi.specs.Blocks.{standard, two_by_two, solved};
 
-use schur22::lahqr_schur22::{lahqr_schur22, values_of};
+use schur22::lahqr_schur22::{Values, lahqr_schur22};
 use sylvester::lasy2::lasy2;
 
 // a, b, c, d, the real and the imaginary part of each value, cs and sn of the block of rows
@@ -31,8 +31,7 @@ pub extern "C" fn vx_lahqr_schur22(
 {
     let s = lahqr_schur22(a, b, c, d);
     let k = s.block;
-    let e = s.eigenvalues;
-    let v = values_of(e);
+    let v = Values::from(s.eigenvalues);
     *new_a = k.a;
     *new_b = k.b;
     *new_c = k.c;
@@ -43,7 +42,7 @@ pub extern "C" fn vx_lahqr_schur22(
     *im2 = v.im2;
     *cs = k.cs;
     *sn = k.sn;
-    v.answer
+    0
 }
 
 // The rows of a matrix that is lent column after column.
@@ -67,6 +66,7 @@ pub extern "C" fn vx_lasy2(
     ensures { (record { x = x.new; scale = scale.new }) ≡ solved (Lasy2.lasy2 binary64 (two_by_two tl.now) (two_by_two tr.now) (two_by_two b.now)) }
 {
     let s = lasy2(two_by_two(tl), two_by_two(tr), two_by_two(b));
-    *x = [s.x00, s.x10, s.x01, s.x11];
+    let four = s.x;
+    *x = four;
     *scale = s.scale;
 }

@@ -20,10 +20,18 @@ pub extern "C" fn vx_schur_swap(
 ) -> usize
     ensures { (record { answer = result; swaps = swaps.new; declined = declined.new; form = t.new; factor = u.new }) ≡ Exchange.exchange_call binary64 ld n t.old u.old j0 n1 n2 }
 {
-    let r = schur::swap::schur_swap(n, ld, t, u, j0, n1, n2);
-    *swaps = r.swaps;
-    *declined = r.declined;
-    r.answer
+    match schur::swap::schur_swap(n, ld, t, u, j0, n1, n2) {
+        Ok(r) => {
+            *swaps = r.swaps;
+            *declined = r.declined;
+            0
+        }
+        Err(refusal) => {
+            *swaps = 0;
+            *declined = 0;
+            usize::from(refusal)
+        }
+    }
 }
 
 // The block in row `from` moved to row `to`; landed, swaps and declined.
@@ -41,11 +49,20 @@ pub extern "C" fn vx_reorder_schur(
 ) -> usize
     ensures { (record { answer = result; landed = landed.new; swaps = swaps.new; declined = declined.new; form = t.new; factor = u.new }) ≡ Move.move_call binary64 ld n t.old u.old from to }
 {
-    let r = schur::reorder::reorder_schur(n, ld, t, u, from, to);
-    *landed = r.landed;
-    *swaps = r.swaps;
-    *declined = r.declined;
-    r.answer
+    match schur::reorder::reorder_schur(n, ld, t, u, from, to) {
+        Ok(r) => {
+            *landed = r.landed;
+            *swaps = r.swaps;
+            *declined = r.declined;
+            0
+        }
+        Err(refusal) => {
+            *landed = 0;
+            *swaps = 0;
+            *declined = 0;
+            usize::from(refusal)
+        }
+    }
 }
 
 // The same, stopping at the first exchange whose test fails; stopped, here, swaps and declined.
@@ -64,10 +81,20 @@ pub extern "C" fn vx_reorder_schur_stopping(
 ) -> usize
     ensures { (record { answer = result; stopped = stopped.new; here = here.new; swaps = swaps.new; declined = declined.new; form = t.new; factor = u.new }) ≡ Stopping.stopping_call binary64 ld n t.old u.old from to }
 {
-    let r = stopping::reorder::reorder_schur_stopping(n, ld, t, u, from, to);
-    *stopped = r.stopped;
-    *here = r.here;
-    *swaps = r.swaps;
-    *declined = r.declined;
-    r.answer
+    match stopping::reorder::reorder_schur_stopping(n, ld, t, u, from, to) {
+        Ok(r) => {
+            *stopped = r.stopped;
+            *here = r.here;
+            *swaps = r.swaps;
+            *declined = r.declined;
+            0
+        }
+        Err(refusal) => {
+            *stopped = false;
+            *here = 0;
+            *swaps = 0;
+            *declined = 0;
+            usize::from(refusal)
+        }
+    }
 }

@@ -50,10 +50,20 @@ pub extern "C" fn vx_make_householder_in_place(
 ) -> usize
     ensures { (record { answer = result; head = new_head.new; tau = tau.new; head_with_beta_inv = head_with_beta_inv.new; norm = norm.new; tail = tail.new }) ≡ Householder.make_householder_in_place binary64 head tail.old }
 {
-    let r = linalg::householder::make_householder_in_place(head, tail);
-    *new_head = r.head;
-    *tau = r.tau;
-    *head_with_beta_inv = r.head_with_beta_inv;
-    *norm = r.norm;
-    r.answer
+    match linalg::householder::make_householder_in_place(head, tail) {
+        Ok(r) => {
+            *new_head = r.head;
+            *tau = r.tau;
+            *head_with_beta_inv = r.head_with_beta_inv;
+            *norm = r.norm;
+            0
+        }
+        Err(refusal) => {
+            *new_head = 0.0;
+            *tau = 0.0;
+            *head_with_beta_inv = 0.0;
+            *norm = 0.0;
+            usize::from(refusal)
+        }
+    }
 }
