@@ -1,2 +1,3 @@
 pub mod Left
-pub mod Within
+pub mod Order
+pub mod Steps

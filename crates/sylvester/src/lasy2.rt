@@ -1,19 +1,17 @@
 // The small Sylvester solve: lasy2, two by two against two by two, by full pivoting on a four by
 // four system. A matrix is an array of its rows: t[i][j] stands in row i, column j.
-ghost use Rattle.std.specs.Prelude.{◌≡◌, ◌<◌, ◌≤◌, ◌+◌, ◌-◌};
+ghost use Rattle.std.specs.Prelude.{◌≡◌, ◌<◌, ◌+◌, ◌-◌, set};
 ghost use Rattle.std.specs.Float.{binary64};
 ghost use Rattle.model.specs.Lasy2 as Lasy2;
-ghost use Rattle.sylvester.specs.View.{pivot, solution, sylvester};
+ghost use Rattle.sylvester.specs.View.{solution, sylvester};
 
 use arith::real::{EPS, MIN_POSITIVE, abs, fmax, recip};
+use std::marker::Model;
 
-// x and scale, with tl * x - x * tr = scale * b.
+// x, column after column, at a scale: tl * x - x * tr = scale * b.
 #[derive(Clone, Copy)]
-pub struct Sylvester {
-    pub x00: f64,
-    pub x10: f64,
-    pub x01: f64,
-    pub x11: f64,
+pub struct Solution {
+    pub x: [f64; 4],
     pub scale: f64,
 }
 
@@ -25,46 +23,17 @@ struct Pivot {
     col: usize,
 }
 
-// Four numbers at a scale: a right-hand side or a solution.
+// The system t * x = b of four rows, and its least pivot. A step or a place is a bare number below
+// 4, as the loops below count it: as a struct it would be made anew at each turn of each loop.
 #[derive(Clone, Copy)]
-struct Solution {
-    x: [f64; 4],
-    scale: f64,
-}
-
-// Two numbers exchanged; with itself, nothing changes. Rows and columns below likewise.
-fn swap_places(r: [f64; 4], i: usize, j: usize) -> [f64; 4]
-    requires { (i < 4) × (j < 4) }
-    ensures { result ≡ Lasy2.swap_places r i j }
-{
-    let mut s = r;
-    s[i] = r[j];
-    s[j] = r[i];
-    s
-}
-
-fn swap_rows(t: [[f64; 4]; 4], i: usize, j: usize) -> [[f64; 4]; 4]
-    requires { (i < 4) × (j < 4) }
-    ensures { result ≡ Lasy2.swap_rows t i j }
-{
-    let mut s = t;
-    s[i] = t[j];
-    s[j] = t[i];
-    s
-}
-
-fn swap_cols(t: [[f64; 4]; 4], i: usize, j: usize) -> [[f64; 4]; 4]
-    requires { (i < 4) × (j < 4) }
-    ensures { result ≡ Lasy2.swap_cols t i j }
-{
-    let r0 = swap_places(t[0], i, j);
-    let r1 = swap_places(t[1], i, j);
-    let r2 = swap_places(t[2], i, j);
-    let r3 = swap_places(t[3], i, j);
-    [r0, r1, r2, r3]
+struct System {
+    t: [[f64; 4]; 4],
+    b: [f64; 4],
+    smin: f64,
 }
 
 // The largest of m and three magnitudes.
+#[tactic(auto, unfolding(model::specs::Lasy2::largest))]
 fn largest(m: f64, x: f64, y: f64, z: f64) -> f64
     ensures { result ≡ Lasy2.largest m x y z }
 {
@@ -72,6 +41,7 @@ fn largest(m: f64, x: f64, y: f64, z: f64) -> f64
 }
 
 // 2^-970.
+#[tactic(auto, unfolding(model::specs::Lasy2::smlnum))]
 fn smlnum() -> f64
     ensures { result ≡ Lasy2.smlnum binary64 }
 {
@@ -79,6 +49,7 @@ fn smlnum() -> f64
 }
 
 // The least pivot.
+#[tactic(auto, unfolding(model::specs::Lasy2::smin_of))]
 fn smin_of(tl: [[f64; 2]; 2], tr: [[f64; 2]; 2]) -> f64
     ensures { result ≡ Lasy2.smin_of binary64 tl tr }
 {
@@ -87,250 +58,240 @@ fn smin_of(tl: [[f64; 2]; 2], tr: [[f64; 2]; 2]) -> f64
     fmax(EPS * m, smlnum())
 }
 
-// The system of tl * x - x * tr, for x column after column.
-fn t16_of(tl: [[f64; 2]; 2], tr: [[f64; 2]; 2]) -> [[f64; 4]; 4]
-    ensures { result ≡ Lasy2.t16_of binary64 tl tr }
-{
-    let r0 = [tl[0][0] - tr[0][0], tl[0][1], -tr[1][0], 0.0];
-    let r1 = [tl[1][0], tl[1][1] - tr[0][0], 0.0, -tr[1][0]];
-    let r2 = [-tr[0][1], 0.0, tl[0][0] - tr[1][1], tl[0][1]];
-    let r3 = [0.0, -tr[0][1], tl[1][0], tl[1][1] - tr[1][1]];
-    [r0, r1, r2, r3]
-}
-
-// b, column after column.
-fn btmp_of(b: [[f64; 2]; 2]) -> [f64; 4]
-    ensures { result ≡ Lasy2.btmp_of b }
-{
-    [b[0][0], b[1][0], b[0][1], b[1][1]]
-}
-
-// x at (i, j) where its magnitude is at least the largest so far: so the last of equal ones, and
-// never a NaN.
-fn better(x: f64, i: usize, j: usize, best: Pivot) -> Pivot
-    ensures { pivot result ≡ Lasy2.better x i j (pivot best) }
-{
-    let a = abs(x);
-    if a >= best.xmax {
-        return Pivot {
-            xmax: a,
-            row: i,
-            col: j,
-        };
-    }
-    best
-}
-
-// Row ip, from column i on.
-fn pivot_in_row(t: [[f64; 4]; 4], i: usize, ip: usize, best: Pivot) -> Pivot
-    requires { (i < 4) × (ip < 4) × (best.row < 4) × (best.col < 4) }
-    ensures { (pivot result ≡ Lasy2.pivot_in_row t ip (4 - i) i (pivot best)) × (result.row < 4) × (result.col < 4) }
-{
-    let mut best = best;
-    let mut jp = i;
-    while jp < 4 {
-        best = better(t[ip][jp], ip, jp, best);
-        jp += 1;
-    }
-    best
-}
-
-// The largest magnitude at or below and right of (i, i); (i, i) where nothing is found.
-fn pivot_of(t: [[f64; 4]; 4], i: usize) -> Pivot
-    requires { i < 4 }
-    ensures { (pivot result ≡ Lasy2.pivot binary64 t i) × (result.row < 4) × (result.col < 4) }
-{
-    let mut best = Pivot {
-        xmax: 0.0,
-        row: i,
-        col: i,
-    };
-    let mut ip = i;
-    while ip < 4 {
-        best = pivot_in_row(t, i, ip, best);
-        ip += 1;
-    }
-    best
-}
-
-// A diagonal number below smin in magnitude becomes smin.
-fn raised(t: [[f64; 4]; 4], i: usize, smin: f64) -> [[f64; 4]; 4]
-    requires { i < 4 }
-    ensures { result ≡ Lasy2.raised t i smin }
-{
-    if abs(t[i][i]) < smin {
-        let mut s = t;
-        s[i][i] = smin;
-        return s;
-    }
-    t
-}
-
-// Row r with the multiple of row p taken off that clears place i, where the multiplier then stands.
-fn reduced_row(p: [f64; 4], i: usize, r: [f64; 4]) -> [f64; 4]
-    requires { i < 4 }
-    ensures { result ≡ Lasy2.reduced_row binary64 p i r }
-{
-    let m = r[i] / p[i];
-    let mut r = r;
-    r[i] = m;
-    let mut k = i + 1;
-    while k < 4 {
-        r[k] = r[k] - m * p[k];
-        k += 1;
-    }
-    r
-}
-
-// Column i cleared below (i, i).
-fn eliminate(i: usize, t: [[f64; 4]; 4]) -> [[f64; 4]; 4]
-    requires { i < 4 }
-    ensures { result ≡ Lasy2.eliminate binary64 i t }
-{
-    let mut t = t;
-    let mut j = i + 1;
-    while j < 4 {
-        t[j] = reduced_row(t[i], i, t[j]);
-        j += 1;
-    }
-    t
-}
-
-// One step: the pivot brought to (i, i), and column i cleared below it.
-fn reduced(i: usize, p: Pivot, smin: f64, t: [[f64; 4]; 4]) -> [[f64; 4]; 4]
-    requires { (i < 4) × (p.row < 4) × (p.col < 4) }
-    ensures { result ≡ Lasy2.reduced binary64 i (pivot p) smin t }
-{
-    let t = swap_rows(t, p.row, i);
-    let t = swap_cols(t, p.col, i);
-    eliminate(i, raised(t, i, smin))
-}
-
-// The same step of the right-hand side, by the multipliers that stand in column i of t.
-fn reduced_rhs(t: [[f64; 4]; 4], i: usize, p: Pivot, b: [f64; 4]) -> [f64; 4]
-    requires { (i < 4) × (p.row < 4) }
-    ensures { result ≡ Lasy2.reduced_rhs binary64 t i (pivot p) b }
-{
-    let mut b = swap_places(b, p.row, i);
-    let mut j = i + 1;
-    while j < 4 {
-        b[j] = b[j] - t[j][i] * b[i];
-        j += 1;
-    }
-    b
-}
-
 // Whether b is so large that it has to be scaled down before it is divided by t.
+#[tactic(auto, unfolding(model::specs::Lasy2::exceeds))]
 fn exceeds(t: f64, b: f64) -> bool
     ensures { result ≡ Lasy2.exceeds binary64 t b }
 {
     (8.0 * smlnum()) * abs(b) > abs(t)
 }
 
-// Whether that holds in any row.
-fn too_large(t: [[f64; 4]; 4], b: [f64; 4]) -> bool
-    ensures { result ≡ Lasy2.too_large binary64 t b }
+// Row r with the multiple of row p taken off that clears place i, where the multiplier then stands.
+#[tactic(auto, using(crate::proofs::Left::left_suc), unfolding(model::specs::Lasy2::reduced_row, model::specs::Lasy2::less_from))]
+fn reduced_row(p: [f64; 4], i: usize, mut r: [f64; 4]) -> [f64; 4]
+    requires { i < 4 }
+    ensures { result ≡ Lasy2.reduced_row binary64 p i r }
 {
-    if exceeds(t[0][0], b[0]) {
-        return true;
+    let m = r[i] / p[i];
+    r[i] = m;
+    for k in i + 1..4 {
+        r[k] -= m * p[k];
     }
-    if exceeds(t[1][1], b[1]) {
-        return true;
-    }
-    if exceeds(t[2][2], b[2]) {
-        return true;
-    }
-    exceeds(t[3][3], b[3])
+    r
 }
 
-// Each number times k.
-fn times(b: [f64; 4], k: f64) -> [f64; 4]
-    ensures { result ≡ Lasy2.scaled_by binary64 b k }
-{
-    [b[0] * k, b[1] * k, b[2] * k, b[3] * k]
+impl Model for Pivot {
+    ghost Value = { Lasy2.Pivot };
+
+    ghost view = { λ p. record { xmax = p.xmax; row = p.row; col = p.col } };
+
+    ghost inverse = { λ p. record { xmax = p.xmax; row = p.row; col = p.col } };
+
+    ghost invariant = { λ p. (p.row < 4) × (p.col < 4) };
 }
 
-// The right-hand side of the triangular system t, with its scale.
-fn scaled_rhs(t: [[f64; 4]; 4], b: [f64; 4]) -> Solution
-    ensures { solution result ≡ Lasy2.scaled_rhs binary64 t b }
-{
-    if too_large(t, b) {
+impl Pivot {
+    // x at (i, j) where its magnitude is at least the largest so far: so the last of equal ones, and
+    // never a NaN.
+    #[tactic(auto, unfolding(model::specs::Lasy2::better))]
+    fn better(self, x: f64, i: usize, j: usize) -> Pivot
+        requires { (i < 4) × (j < 4) }
+        ensures { result ≡ Lasy2.better x i j self }
+    {
+        let xmax = abs(x);
+        if xmax >= self.xmax {
+            Pivot {
+                xmax,
+                row: i,
+                col: j,
+            }
+        } else {
+            self
+        }
+    }
+}
+
+impl System {
+    // tl * x - x * tr = b, for x column after column.
+    #[tactic(auto, unfolding(model::specs::Lasy2::t16_of, model::specs::Lasy2::btmp_of))]
+    fn new(tl: [[f64; 2]; 2], tr: [[f64; 2]; 2], b: [[f64; 2]; 2]) -> System
+        ensures t { result.t ≡ Lasy2.t16_of binary64 tl tr }
+        ensures b { result.b ≡ Lasy2.btmp_of b }
+        ensures smin { result.smin ≡ Lasy2.smin_of binary64 tl tr }
+    {
+        let t = [
+            [tl[0][0] - tr[0][0], tl[0][1], -tr[1][0], 0.0],
+            [tl[1][0], tl[1][1] - tr[0][0], 0.0, -tr[1][0]],
+            [-tr[0][1], 0.0, tl[0][0] - tr[1][1], tl[0][1]],
+            [0.0, -tr[0][1], tl[1][0], tl[1][1] - tr[1][1]],
+        ];
+        System {
+            t,
+            b: [b[0][0], b[1][0], b[0][1], b[1][1]],
+            smin: smin_of(tl, tr),
+        }
+    }
+
+    // The largest magnitude at or below and right of (i, i); (i, i) where nothing is found.
+    #[tactic(auto, using(crate::proofs::Left::left_suc), unfolding(model::specs::Lasy2::pivot, model::specs::Lasy2::pivot_from, model::specs::Lasy2::pivot_in_row))]
+    fn pivot(&self, i: usize) -> Pivot
+        requires { i < 4 }
+        ensures { result ≡ Lasy2.pivot binary64 self.now.t i }
+    {
+        let mut best = Pivot {
+            xmax: 0.0,
+            row: i,
+            col: i,
+        };
+        for ip in i..4 {
+            for jp in i..4 {
+                best = best.better(self.t[ip][jp], ip, jp);
+            }
+        }
+        best
+    }
+
+    // The pivot p brought to (i, i).
+    #[tactic(auto, using(crate::proofs::Left::left_suc, std::proofs::lemmas::List::Edits::swap_is), unfolding(crate::proofs::Order::cols_from, model::specs::Lasy2::swap_places))]
+    fn exchange(&mut self, i: usize, p: Pivot)
+        requires { i < 4 }
+        ensures t { self.new.t ≡ Lasy2.swap_cols (Lasy2.swap_rows self.old.t p.row i) p.col i }
+        ensures b { self.new.b ≡ Lasy2.swap_places self.old.b p.row i }
+        ensures smin { self.new.smin ≡ self.old.smin }
+    {
+        self.t.swap(p.row, i);
+        self.b.swap(p.row, i);
+        for row in &mut self.t {
+            row.swap(p.col, i);
+        }
+    }
+
+    // A diagonal number below smin in magnitude becomes smin.
+    #[tactic(auto, unfolding(model::specs::Lasy2::raised))]
+    fn raise(&mut self, i: usize)
+        requires { i < 4 }
+        ensures { self.new ≡ record self.old { t = Lasy2.raised self.old.t i self.old.smin } }
+    {
+        if abs(self.t[i][i]) < self.smin {
+            self.t[i][i] = self.smin;
+        }
+    }
+
+    // Column i cleared below (i, i).
+    #[tactic(auto, using(crate::proofs::Left::left_suc), unfolding(model::specs::Lasy2::eliminate, model::specs::Lasy2::eliminate_from))]
+    fn eliminate(&mut self, i: usize)
+        requires { i < 4 }
+        ensures { self.new ≡ record self.old { t = Lasy2.eliminate binary64 i self.old.t } }
+    {
+        for j in i + 1..4 {
+            self.t[j] = reduced_row(self.t[i], i, self.t[j]);
+        }
+    }
+
+    // The same of the right-hand side, by the multipliers that then stand in column i.
+    #[tactic(auto, using(crate::proofs::Left::left_suc), unfolding(model::specs::Lasy2::rhs_from))]
+    fn eliminate_rhs(&mut self, i: usize)
+        requires { i < 4 }
+        ensures { self.new ≡ record self.old { b = Lasy2.rhs_from binary64 self.old.t i (4 - (i + 1)) (i + 1) self.old.b } }
+    {
+        for j in i + 1..4 {
+            self.b[j] -= self.t[j][i] * self.b[i];
+        }
+    }
+
+    // Step i of the elimination, and the column that its pivot stood in.
+    #[tactic(auto, unfolding(model::specs::Lasy2::reduced, model::specs::Lasy2::reduced_rhs))]
+    fn step(&mut self, i: usize) -> usize
+        requires { i < 4 }
+        ensures t { self.new.t ≡ Lasy2.reduced binary64 i (Lasy2.pivot binary64 self.old.t i) self.old.smin self.old.t }
+        ensures b { self.new.b ≡ Lasy2.reduced_rhs binary64 self.new.t i (Lasy2.pivot binary64 self.old.t i) self.old.b }
+        ensures smin { self.new.smin ≡ self.old.smin }
+        ensures col { result ≡ (Lasy2.pivot binary64 self.old.t i).col }
+        ensures inside { result < 4 }
+    {
+        let p = self.pivot(i);
+        self.exchange(i, p);
+        self.raise(i);
+        self.eliminate(i);
+        self.eliminate_rhs(i);
+        p.col
+    }
+
+    // Whether a number of b is so large in any row: by `any` over the rows the proof does not close.
+    #[tactic(auto, unfolding(model::specs::Lasy2::too_large))]
+    fn too_large(&self) -> bool
+        ensures { result ≡ Lasy2.too_large binary64 self.now.t self.now.b }
+    {
+        exceeds(self.t[0][0], self.b[0])
+            || exceeds(self.t[1][1], self.b[1])
+            || exceeds(self.t[2][2], self.b[2])
+            || exceeds(self.t[3][3], self.b[3])
+    }
+
+    // b scaled down where that has to be, and its scale.
+    #[tactic(auto, using(crate::proofs::Order::four_is), unfolding(model::specs::Lasy2::scaled_rhs, model::specs::Lasy2::scaled_by))]
+    fn scale_rhs(&mut self) -> f64
+        ensures b { (record { x = self.new.b; scale = result }) ≡ Lasy2.scaled_rhs binary64 self.old.t self.old.b }
+        ensures t { self.new.t ≡ self.old.t }
+    {
+        if !self.too_large() {
+            return 1.0;
+        }
+        let b = self.b;
         let scale = 0.125 / largest(abs(b[0]), b[1], b[2], b[3]);
-        let x = times(b, scale);
-        return Solution { x, scale };
+        self.b = b.map(|x| x * scale);
+        scale
     }
-    Solution { x: b, scale: 1.0 }
-}
 
-// x with its number at place k, from those behind it.
-fn entry_at(t: [[f64; 4]; 4], b: [f64; 4], k: usize, x: [f64; 4]) -> [f64; 4]
-    requires { k < 4 }
-    ensures { result ≡ Lasy2.entry_at binary64 t b k x }
-{
-    let temp = recip(t[k][k]);
-    let mut s = b[k] * temp;
-    let mut j = k + 1;
-    while j < 4 {
-        s = s - temp * t[k][j] * x[j];
-        j += 1;
+    // The number of x at place k, from those behind it.
+    #[tactic(auto, using(crate::proofs::Left::left_suc), unfolding(model::specs::Lasy2::entry_at, model::specs::Lasy2::entry_from))]
+    fn entry(&self, k: usize, x: &[f64; 4]) -> f64
+        requires { k < 4 }
+        ensures { set x.now k result ≡ Lasy2.entry_at binary64 self.now.t self.now.b k x.now }
+    {
+        let temp = recip(self.t[k][k]);
+        let mut s = self.b[k] * temp;
+        for j in k + 1..4 {
+            s -= temp * self.t[k][j] * x[j];
+        }
+        s
     }
-    let mut y = x;
-    y[k] = s;
-    y
-}
 
-// Back substitution, from the last row up.
-fn back(t: [[f64; 4]; 4], b: [f64; 4]) -> [f64; 4]
-    ensures { result ≡ Lasy2.back binary64 t b }
-{
-    let x = entry_at(t, b, 3, [0.0, 0.0, 0.0, 0.0]);
-    let x = entry_at(t, b, 2, x);
-    let x = entry_at(t, b, 1, x);
-    entry_at(t, b, 0, x)
-}
+    // Back substitution, from the last row up.
+    #[tactic(auto, using(crate::proofs::Order::up_next, crate::proofs::Order::up_none), unfolding(crate::proofs::Order::up_from, model::specs::Lasy2::back))]
+    fn back(&self) -> [f64; 4]
+        ensures { result ≡ Lasy2.back binary64 self.now.t self.now.b }
+    {
+        let mut x = [0.0; 4];
+        for k in (0..4).rev() {
+            x[k] = self.entry(k, &x);
+        }
+        x
+    }
 
-// The triangular system t with the right-hand side b.
-fn triangular(t: [[f64; 4]; 4], b: [f64; 4]) -> Solution
-    ensures { solution result ≡ Lasy2.triangular binary64 t b }
-{
-    let s = scaled_rhs(t, b);
-    let b = s.x;
-    let x = back(t, b);
-    Solution { x, scale: s.scale }
-}
-
-// The system of four rows, with the order of the columns undone.
-fn solved(smin: f64, t: [[f64; 4]; 4], b: [f64; 4]) -> Solution
-    ensures { solution result ≡ Lasy2.solved binary64 smin t b }
-{
-    let p0 = pivot_of(t, 0);
-    let t = reduced(0, p0, smin, t);
-    let b = reduced_rhs(t, 0, p0, b);
-    let p1 = pivot_of(t, 1);
-    let t = reduced(1, p1, smin, t);
-    let b = reduced_rhs(t, 1, p1, b);
-    let p2 = pivot_of(t, 2);
-    let t = reduced(2, p2, smin, t);
-    let b = reduced_rhs(t, 2, p2, b);
-    let s = triangular(raised(t, 3, smin), b);
-    let x = s.x;
-    let x = swap_places(x, 2, p2.col);
-    let x = swap_places(x, 1, p1.col);
-    let x = swap_places(x, 0, p0.col);
-    Solution { x, scale: s.scale }
+    // x and its scale, with the order of the columns undone.
+    #[tactic(auto, using(crate::proofs::Left::left_suc), unfolding(crate::proofs::Steps::steps, crate::proofs::Steps::step))]
+    fn solve(mut self) -> Solution
+        ensures { solution result ≡ Lasy2.solved binary64 self.smin self.t self.b }
+    {
+        let mut cols = [0; 3];
+        for i in 0..3 {
+            cols[i] = self.step(i);
+        }
+        self.raise(3);
+        let scale = self.scale_rhs();
+        let mut x = self.back();
+        for i in (0..3).rev() {
+            x.swap(i, cols[i]);
+        }
+        Solution { x, scale }
+    }
 }
 
 // x and scale of tl * x - x * tr = scale * b. A pivot below smin is replaced by smin.
-pub fn lasy2(tl: [[f64; 2]; 2], tr: [[f64; 2]; 2], b: [[f64; 2]; 2]) -> Sylvester
+#[tactic(auto, unfolding(model::specs::Lasy2::lasy2))]
+pub fn lasy2(tl: [[f64; 2]; 2], tr: [[f64; 2]; 2], b: [[f64; 2]; 2]) -> Solution
     ensures { sylvester result ≡ Lasy2.lasy2 binary64 tl tr b }
 {
-    let s = solved(smin_of(tl, tr), t16_of(tl, tr), btmp_of(b));
-    let x = s.x;
-    Sylvester {
-        x00: x[0],
-        x10: x[1],
-        x01: x[2],
-        x11: x[3],
-        scale: s.scale,
-    }
+    System::new(tl, tr, b).solve()
 }
