@@ -1,28 +1,33 @@
--- The crate's structs as the records of model. Definitions only. Assumes nothing.
+-- The crate's structs and arrays as the records of model. Definitions only. Assumes nothing.
 use Rattle.std.specs.Prelude.{List, [], get_or, Float}
-use Rattle.std.specs.Float.{nan}
+use Rattle.model.specs.Form.{at}
 use Rattle.model.specs.Columns as Columns
 use Rattle.model.specs.Swaps as Swaps
-use Rattle.swaps.specs.declared.kernels.Triple.{Triple}
-use Rattle.swaps.specs.declared.kernels.Quad.{Quad}
-use Rattle.swaps.specs.declared.kernels.Reflectors3.{Reflectors3}
-use Rattle.swaps.specs.declared.kernels.Reflectors4.{Reflectors4}
+use Rattle.model.specs.Stopping as Stopping
+use Rattle.swaps.specs.declared.kernels.Reflectors.{Reflectors}
+use Rattle.swaps.specs.declared.window.Window.{Window}
 
-abbrev pub triple : Triple → Columns.Triple
-triple t = record { x0 = t.x0; x1 = t.x1; x2 = t.x2 }
+-- an array of three numbers, and of four
+abbrev pub triple : List Float → Columns.Triple
+triple x = record { x0 = at x 0; x1 = at x 1; x2 = at x 2 }
 
-abbrev pub quad : Quad → Columns.Quad
-quad t = record { x0 = t.x0; x1 = t.x1; x2 = t.x2; x3 = t.x3 }
+abbrev pub quad : List Float → Columns.Quad
+quad x = record { x0 = at x 0; x1 = at x 1; x2 = at x 2; x3 = at x 3 }
 
-abbrev pub reflection3 : Reflectors3 → Columns.Reflect3
-reflection3 v = record { tau1 = v.tau1; v11 = v.v11; v12 = v.v12; tau2 = v.tau2; v21 = v.v21 }
+abbrev pub reflection3 : Reflectors 2 1 → Columns.Reflect3
+reflection3 r = record { tau1 = r.first.tau; v11 = at r.first.v 0; v12 = at r.first.v 1; tau2 = r.second.tau; v21 = at r.second.v 0 }
 
-abbrev pub reflection4 : Reflectors4 → Columns.Reflect4
-reflection4 v = record { tau1 = v.tau1; v11 = v.v11; v12 = v.v12; v13 = v.v13; tau2 = v.tau2; v21 = v.v21; v22 = v.v22 }
+abbrev pub reflection4 : Reflectors 3 2 → Columns.Reflect4
+reflection4 r = record { tau1 = r.first.tau; v11 = at r.first.v 0; v12 = at r.first.v 1; v13 = at r.first.v 2; tau2 = r.second.tau; v21 = at r.second.v 0; v22 = at r.second.v 1 }
 
--- an array of four numbers, and one of four columns
-abbrev pub column : List Float → Columns.Quad
-column c = record { x0 = get_or c 0 nan; x1 = get_or c 1 nan; x2 = get_or c 2 nan; x3 = get_or c 3 nan }
+abbrev pub columns3 : List (List Float) → Stopping.Window3
+columns3 w = record { c0 = triple (get_or w 0 []); c1 = triple (get_or w 1 []); c2 = triple (get_or w 2 []) }
 
-abbrev pub window : List (List Float) → Swaps.Window
-window w = record { c0 = column (get_or w 0 []); c1 = column (get_or w 1 []); c2 = column (get_or w 2 []); c3 = column (get_or w 3 []) }
+abbrev pub columns4 : List (List Float) → Swaps.Window
+columns4 w = record { c0 = quad (get_or w 0 []); c1 = quad (get_or w 1 []); c2 = quad (get_or w 2 []); c3 = quad (get_or w 3 []) }
+
+abbrev pub window3 : Window 3 → Stopping.Window3
+window3 w = columns3 w.columns
+
+abbrev pub window4 : Window 4 → Swaps.Window
+window4 w = columns4 w.columns

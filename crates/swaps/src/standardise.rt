@@ -5,9 +5,8 @@ ghost use Rattle.model.specs.Swaps as Swaps;
 ghost use Rattle.schur22.specs.View.{block};
 ghost use Rattle.form.specs.Shaped.{Holds, Beside};
 ghost use Rattle.swaps.specs.Done.{Done};
-ghost use Rattle.swaps.specs.Forms.{standard_form};
 
-use crate::operations::{rotate_factor, rotate_form};
+use crate::operations::{on_factor, on_form};
 use form::shape::Shape;
 use linalg::jacobi::JacobiRotation;
 use schur22::lahqr_schur22::{Block, lahqr_schur22};
@@ -24,17 +23,18 @@ pub fn standard_block(s: Shape, t: &[f64], j: usize) -> Block
     lahqr_schur22(a, b, c, d).block
 }
 
-// The form with the block b in rows j and j + 1, and what lies right of and above it rotated.
-pub fn standard_form(s: Shape, t: &mut [f64], j: usize, b: Block)
-    requires { Holds s t.old × (j + 2 ≤ s.n) }
-    ensures { t.new ≡ standard_form s.ld s.n j (block b) t.old }
+// The block b put in rows j and j + 1, and what lies right of and above it rotated, and the factor's columns.
+pub fn standardise_by(s: Shape, t: &mut [f64], u: &mut [f64], j: usize, b: Block)
+    requires { Holds s t.old × Beside s u.old × (j + 2 ≤ s.n) }
+    ensures { Done s.ld s.n u.old t.new u.new (Swaps.standardise_by binary64 s.ld s.n j (block b) t.old) }
 {
     s.put(t, j, j, b.a);
     s.put(t, j, j + 1, b.b);
     s.put(t, j + 1, j, b.c);
     s.put(t, j + 1, j + 1, b.d);
     let rot = JacobiRotation { c: b.cs, s: b.sn };
-    rotate_form(s, t, rot, j, j + 1, j + 2, j);
+    on_form(s, t, rot, [j, j + 1], j + 2, j);
+    on_factor(s, u, rot, [j, j + 1]);
 }
 
 // The block in rows j and j + 1 standardised.
@@ -43,7 +43,5 @@ pub fn standardise(s: Shape, t: &mut [f64], u: &mut [f64], j: usize)
     ensures { Done s.ld s.n u.old t.new u.new (Swaps.standardise binary64 s.ld s.n j t.old) }
 {
     let b = standard_block(s, t, j);
-    standard_form(s, t, j, b);
-    let rot = JacobiRotation { c: b.cs, s: b.sn };
-    rotate_factor(s, u, rot, j, j + 1);
+    standardise_by(s, t, u, j, b);
 }

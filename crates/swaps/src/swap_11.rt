@@ -7,7 +7,7 @@ ghost use Rattle.form.specs.Shaped.{Holds, Beside};
 ghost use Rattle.swaps.specs.Done.{Done};
 ghost use Rattle.swaps.specs.Forms.{form11};
 
-use crate::operations::{rotate_factor, rotate_form};
+use crate::operations::{on_factor, on_form};
 use form::shape::Shape;
 use linalg::jacobi::{JacobiRotation, adjoint, rotg};
 
@@ -31,7 +31,7 @@ fn form_11(s: Shape, t: &mut [f64], j: usize, rot: JacobiRotation)
     let t11 = s.get(t, j + 1, j + 1);
     s.put(t, j + 1, j + 1, t00);
     s.put(t, j, j, t11);
-    rotate_form(s, t, rot, j, j + 1, j + 2, j);
+    on_form(s, t, rot, [j, j + 1], j + 2, j);
 }
 
 // Rows j and j + 1 exchanged.
@@ -41,5 +41,5 @@ pub fn schur_swap_11(s: Shape, t: &mut [f64], u: &mut [f64], j: usize)
 {
     let rot = rotation_11(s, t, j);
     form_11(s, t, j, rot);
-    rotate_factor(s, u, rot, j, j + 1);
+    on_factor(s, u, rot, [j, j + 1]);
 }

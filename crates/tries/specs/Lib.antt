@@ -1,1 +1,1 @@
-pub mod View
+pub mod Tests

@@ -8,9 +8,10 @@ ghost use Rattle.form.specs.Shaped.{Holds, Beside};
 ghost use Rattle.swaps.specs.Done.{Done};
 
 use crate::standard::standardise_also;
-use crate::swap::{try_12, try_21};
+use crate::swap::try_3;
 use form::shape::Shape;
 use swaps::swap_11::schur_swap_11;
+use swaps::swap_12::Single;
 use swaps::swap_22::schur_swap_22;
 
 // The swap of n1 rows from row j on with the n2 below them, three or four in all: true where the test
@@ -20,10 +21,10 @@ fn try_swap(s: Shape, t: &mut [f64], u: &mut [f64], j: usize, n1: usize, n2: usi
     ensures { Done s.ld s.n u.old t.new u.new (cond (Stopping.test_fails binary64 s.ld t.old j n1 n2) (Swaps.declining j n1 n2 t.old) (Swaps.swap_of binary64 s.ld s.n j n1 n2 t.old)) × (result ≡ Stopping.test_fails binary64 s.ld t.old j n1 n2) }
 {
     if n1 == 1 {
-        return try_12(s, t, u, j);
+        return try_3(Single::First, s, t, u, j);
     }
     if n2 == 1 {
-        return try_21(s, t, u, j);
+        return try_3(Single::Last, s, t, u, j);
     }
     schur_swap_22(s, t, u, j)
 }

@@ -4,4 +4,3 @@
 pub mod exchange;
 mod standard;
 mod swap;
-mod window;

@@ -7,10 +7,8 @@ ghost use Rattle.form.specs.Shaped.{Holds, Beside};
 ghost use Rattle.swaps.specs.Done.{Done};
 
 use form::shape::Shape;
-use linalg::jacobi::JacobiRotation;
 use schur22::lahqr_schur22::Block;
-use swaps::operations::rotate_factor;
-use swaps::standardise::{standard_block, standard_form};
+use swaps::standardise::{standard_block, standardise_by};
 
 // A block whose b is zero and whose c is not, turned over so that c is.
 fn exchanged_b(x: Block) -> Block
@@ -18,12 +16,11 @@ fn exchanged_b(x: Block) -> Block
 {
     if (x.b == 0.0) & (x.c != 0.0) {
         return Block {
-            a: x.a,
             b: -x.c,
             c: 0.0,
-            d: x.d,
             cs: -x.sn,
             sn: x.cs,
+            ..x
         };
     }
     x
@@ -38,7 +35,5 @@ pub fn standardise_also(s: Shape, t: &mut [f64], u: &mut [f64], size: usize, j: 
         return;
     }
     let b = exchanged_b(standard_block(s, t, j));
-    standard_form(s, t, j, b);
-    let rot = JacobiRotation { c: b.cs, s: b.sn };
-    rotate_factor(s, u, rot, j, j + 1);
+    standardise_by(s, t, u, j, b);
 }

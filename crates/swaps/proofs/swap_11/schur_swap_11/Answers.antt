@@ -6,4 +6,4 @@ use Rattle.swaps.proofs.swap_11.schur_swap_11.Goals as goal
 pub returns : goal.returns
 unfolding swap11 on_factor
 returns c =
-    record { form = rw (c.form_11.ensures, c.rotation_11-rot.ensures); factor = rw (c.rotate_factor.ensures, c.rotation_11-rot.ensures) }
+    record { form = rw (c.form_11.ensures, c.rotation_11-rot.ensures); factor = rw (c.on_factor.ensures, c.rotation_11-rot.ensures) }

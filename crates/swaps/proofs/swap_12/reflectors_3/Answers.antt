@@ -1,9 +1,13 @@
 -- `swaps::swap_12::reflectors_3` meets its contract. Assumes nothing.
-use Rattle.model.specs.Householder.{make_householder_in_place, tail_fits}
-use Rattle.model.specs.Swaps.{reflectors3}
+use mathlib.Core.Path.{ap, ◌∙◌}
+use Rattle.swaps.specs.Forms.{reflectors_of}
+use Rattle.swaps.specs.View.{columns3}
+use Rattle.swaps.proofs.Windows.{transposed_3}
 use Rattle.swaps.proofs.swap_12.reflectors_3.Goals as goal
 
-pub returns : goal.returns
-unfolding reflectors3 make_householder_in_place tail_fits
-returns c =
-    rw (← c.make_householder-h.ensures, ← c.recip-tau1.ensures, ← c.reflect_triple-c.ensures, ← c.make_householder-g.ensures, ← c.recip.ensures)
+pub returns-in-First : goal.returns-in-First
+returns-in-First c = rw c.in-First.is c.reflectors_of.ensures
+
+pub returns-in-Last : goal.returns-in-Last
+returns-in-Last c =
+    rw c.in-Last.is (c.reflectors_of-in-Last.ensures ∙ ap reflectors_of (ap columns3 c.transposed.ensures ∙ transposed_3 c.args.w.columns))

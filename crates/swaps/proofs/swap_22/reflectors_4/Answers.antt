@@ -1,9 +1,6 @@
 -- `swaps::swap_22::reflectors_4` meets its contract. Assumes nothing.
-use Rattle.model.specs.Householder.{make_householder_in_place, tail_fits}
-use Rattle.model.specs.Swaps.{reflectors4}
+use Rattle.swaps.proofs.Windows.{pair_4}
 use Rattle.swaps.proofs.swap_22.reflectors_4.Goals as goal
 
 pub returns : goal.returns
-unfolding reflectors4 make_householder_in_place tail_fits
-returns c =
-    rw (← c.make_householder-h.ensures, ← c.recip-tau1.ensures, ← c.reflect_quad-c.ensures, ← c.make_householder-g.ensures, ← c.recip.ensures)
+returns c = pair_4 c.of.result c.args.solution c.of.ensures

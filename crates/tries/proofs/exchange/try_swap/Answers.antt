@@ -7,12 +7,12 @@ use Rattle.tries.proofs.exchange.try_swap.Goals as goal
 pub returns-then-n1-eq1 : goal.returns-then-n1-eq1
 unfolding test_fails swap_of
 returns-then-n1-eq1 c =
-    rw (c.if-n1-eq1.true, below_one c.requires.2 c.requires.3 c.if-n1-eq1.true) c.try_12.ensures
+    rw (c.if-n1-eq1.true, below_one c.requires.2 c.requires.3 c.if-n1-eq1.true) c.try_3.ensures
 
 pub returns-then-n2-eq1 : goal.returns-then-n2-eq1
 unfolding test_fails swap_of
 returns-then-n2-eq1 c =
-    rw (two1 c.requires.2 c.if-n1-eq1.false, c.if-n2-eq1.true) c.try_21.ensures
+    rw (two1 c.requires.2 c.if-n1-eq1.false, c.if-n2-eq1.true) c.try_3-then-n2-eq1.ensures
 
 pub returns : goal.returns
 returns c =

@@ -1,6 +1,5 @@
 -- `tries::standard::standardise_also` meets its contract. Assumes nothing.
 use mathlib.Core.Path.{refl}
-use native.Mathlib.Omega.{arith}
 use borrow.Author.Tests.{eq-eqb, ne_eqb}
 use Rattle.model.specs.Columns.{on_factor}
 use Rattle.model.specs.Stopping.{standardise_also}
@@ -10,14 +9,7 @@ pub returns-then-size-ne2 : goal.returns-then-size-ne2
 unfolding standardise_also on_factor
 returns-then-size-ne2 c = rw (ne_eqb _ _ c.if-size-ne2.true) (record { form = refl; factor = refl })
 
-pub rotate_factor-requires : goal.rotate_factor-requires
-rotate_factor-requires c =
-    let h = c.requires in
-    let k = h.2 in
-    let e = c.if-size-ne2.false in
-    (h.1, omega arith, omega arith)
-
 pub returns : goal.returns
-unfolding standardise_also on_factor
+unfolding standardise_also
 returns c =
-    rw (eq-eqb _ _ c.if-size-ne2.false, ← c.standard_block.ensures, ← c.exchanged_b-b.ensures) (record { form = c.standard_form.ensures; factor = c.rotate_factor.ensures })
+    rw (eq-eqb _ _ c.if-size-ne2.false, ← c.standard_block.ensures, ← c.exchanged_b-b.ensures) c.standardise_by.ensures
