@@ -5,7 +5,7 @@ ghost use Rattle.digits.specs.Digits.{Left, NearInverse, NewtonStep, NearHalf};
 
 use crate::table::line_at;
 
-// The first 53 or 54 digits of a number of 107 or 108 that a root is taken of.
+// d: the first 53 or 54 digits of a number of 107 or 108 that a root is taken of.
 #[derive(Clone, Copy)]
 pub struct Radicand {
     pub digits: u64,

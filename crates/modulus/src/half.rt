@@ -35,10 +35,7 @@ impl Long {
         let Some(d) = left(self.whole.high, t.high, 16) else {
             return false;
         };
-        match left(d * 0x40_0000_0000_0000 + self.whole.low, t.low, k * 8) {
-            Some(u) => 0 < u,
-            None => false,
-        }
+        left(d * 0x40_0000_0000_0000 + self.whole.low, t.low, k * 8).is_some_and(|u| 0 < u)
     }
 
     // Half the root, rounded, where k is near and fails the test: one more or one less by the same test,
