@@ -60,6 +60,7 @@ fn on_columns<const N: usize, K: Kernel<N>>(
 }
 
 // The operation on rows from column j on, and then on columns in the rows above row i.
+#[tactic(auto, unfolding(model::specs::Columns::on_form))]
 pub fn on_form<const N: usize, K: Kernel<N>>(
     s: Shape,
     t: &mut [f64],
