@@ -1,56 +1,76 @@
 -- One step of going through the blocks from the last, as the code takes it. Assumes nothing.
 use mathlib.Core.Path.{◌≡◌, refl, sym, ap, ◌∙◌}
-use mathlib.Core.Logic.{◌⊎◌, inl, inr}
-use mathlib.Core.Bool.{Bool, true, false, not}
+use mathlib.Core.Bool.{Bool, true, false, not, cond}
 use mathlib.Core.List.{List}
 use Prim.Native.Nat.{ℕ, suc, ◌+◌, ◌-◌, ◌<◌, ◌≤◌}
 use native.Mathlib.Numerals.{add-one}
+use native.Mathlib.Decide.{ℕ_discrete}
 use native.Mathlib.Omega.{arith}
-use lib.Ieee.{Float, binary64, ne}
-use Rattle.model.specs.Form.{zero_below, nonzero_below}
+use borrow.Author.Tests.{le-leb}
+use lib.Ieee.{Float, Format, ne}
+use Rattle.model.specs.Form.{zero_below}
+use Rattle.model.specs.Move.{size_above}
 use Rattle.model.specs.Vectors.{blocks_down}
 
-opposite : (b c : Bool) → not b ≡ not c → b ≡ c
-opposite true true e = refl
-opposite true false e = sym e
-opposite false true e = sym e
-opposite false false e = refl
+-- what a block's size says of the entry inside it
+one-is : (b : Bool) → ◌≡◌ {A = ℕ} (cond (not b) 2 1) 1 → b ≡ true
+one-is true e = refl
+one-is false e = absurd (omega arith)
 
-module _ (ld : ℕ) (a : List Float) (one two : ℕ → List Float → List Float) (x : List Float) where
+two_is : (b : Bool) → (◌≡◌ {A = ℕ} (cond (not b) 2 1) 1 → ⊥) → b ≡ false
+two_is true e = absurd (e refl)
+two_is false e = refl
+
+module _ (f : Format) (ld : ℕ) (a : List Float) (one two : ℕ → List Float → List Float) (x : List Float) where
   abbrev down : ℕ → List Float → List Float
-  down = blocks_down binary64 ld a one two
+  down = blocks_down f ld a one two
 
-  zero : (j : ℕ) → nonzero_below binary64 ld a j ≡ false → zero_below binary64 ld a j ≡ true
-  unfolding ne
-  zero j e = opposite (zero_below binary64 ld a j) true e
+  from-two : (rows : ℕ) → 2 ≤ rows → down (suc (suc (rows - 2))) x ≡ down rows x
+  from-two rows h = ap (λ (k : ℕ). down k x) (omega arith)
 
-  nonzero : (j : ℕ) → nonzero_below binary64 ld a j ≡ true → zero_below binary64 ld a j ≡ false
-  unfolding ne
-  nonzero j e = opposite (zero_below binary64 ld a j) false e
-
-  one_more : (j : ℕ) → zero_below binary64 ld a j ≡ true → down (j + 1) (one (j + 1) x) ≡ down (suc (suc j)) x
+  one_more : (j : ℕ) → zero_below f ld a j ≡ true → down (j + 1) (one (j + 1) x) ≡ down (suc (suc j)) x
   unfolding blocks_down
   one_more j z = rw (z, add-one)
 
-  two_more : (j : ℕ) → zero_below binary64 ld a j ≡ false → down j (two j x) ≡ down (suc (suc j)) x
+  two-more : (j : ℕ) → zero_below f ld a j ≡ false → down j (two j x) ≡ down (suc (suc j)) x
   unfolding blocks_down
-  two_more j z = rw z
+  two-more j z = rw z
 
-  single : (rows : ℕ) → rows ≡ 1 → down (rows - 1) (one (rows - 1) x) ≡ down rows x
-  unfolding blocks_down
+  above : (rows : ℕ) → 2 ≤ rows → size_above f ld a rows ≡ cond (not (zero_below f ld a (rows - 2))) 2 1
+  unfolding size_above ne
+  above rows h = rw (le-leb 2 rows h)
+
+  single : (rows : ℕ) → rows ≡ 1 → size_above f ld a rows ≡ 1
+  unfolding size_above
   single rows e = rw e
 
   -- the last of so many rows is a 1-block
-  pub last_one : (rows : ℕ) → 0 < rows → (rows ≤ 1) ⊎ ((1 < rows) × (nonzero_below binary64 ld a (rows - 2) ≡ false)) → down (rows - 1) (one (rows - 1) x) ≡ down rows x
-  last_one rows h (inl l) = single rows (omega arith)
-  last_one rows h (inr k) =
-      let l = k.0 in
-      let e : rows - 1 ≡ rows - 2 + 1 = omega arith in
-      let s : suc (suc (rows - 2)) ≡ rows = omega arith in
-      ap (λ (i : ℕ). down i (one i x)) e ∙ one_more (rows - 2) (zero (rows - 2) k.1) ∙ ap (λ (i : ℕ). down i x) s
+  last_one : (rows : ℕ) → 0 < rows → size_above f ld a rows ≡ 1 → down (rows - 1) (one (rows - 1) x) ≡ down rows x
+  unfolding blocks_down
+  last_one rows h e =
+      elim (ℕ_discrete rows 1) [
+        | yes p ↦ rw p
+        | no p ↦ many (omega arith)
+      ]
+    where
+      many : 2 ≤ rows → down (rows - 1) (one (rows - 1) x) ≡ down rows x
+      many l = let e₁ : rows - 1 ≡ rows - 2 + 1 = omega arith in ap (λ (k : ℕ). down k (one k x)) e₁ ∙ one_more (rows - 2) (one-is _ (sym (above rows l) ∙ e)) ∙ from-two rows l
 
   -- the last two are a 2-block
-  pub last_two : (rows : ℕ) → 1 < rows → nonzero_below binary64 ld a (rows - 2) ≡ true → down (rows - 2) (two (rows - 2) x) ≡ down rows x
-  last_two rows h e =
-      let s : suc (suc (rows - 2)) ≡ rows = omega arith in
-      two_more (rows - 2) (nonzero (rows - 2) e) ∙ ap (λ (i : ℕ). down i x) s
+  last-two : (rows : ℕ) → 0 < rows → (size_above f ld a rows ≡ 1 → ⊥) → down (rows - 2) (two (rows - 2) x) ≡ down rows x
+  last-two rows h e =
+      elim (ℕ_discrete rows 1) [
+        | yes p ↦ absurd (e (single rows p))
+        | no p ↦ many (omega arith)
+      ]
+    where
+      many : 2 ≤ rows → down (rows - 2) (two (rows - 2) x) ≡ down rows x
+      many l = two-more (rows - 2) (two_is _ (λ q. e (above rows l ∙ q))) ∙ from-two rows l
+
+  -- of so many rows the last block, by the size that the code finds, and what the rest then gives
+  module _ (rows size : ℕ) (h : 0 < rows) (e : size ≡ size_above f ld a rows) (y z : List Float) (r : down rows x ≡ z) where
+    pub step_one : size ≡ 1 → y ≡ one (rows - size) x → down (rows - size) y ≡ z
+    step_one o k = rw (k, o) (last_one rows h (sym e ∙ o) ∙ r)
+
+    pub step_two : (size ≡ 1 → ⊥) → 1 ≤ size → size ≤ 2 → y ≡ two (rows - size) x → down (rows - size) y ≡ z
+    step_two o l m k = let d : size ≡ 2 = omega arith in rw (k, d) (last-two rows h (λ q. o (e ∙ q)) ∙ r)

@@ -33,12 +33,12 @@ pub fn blocks_down<B: EachBlock>(a: Leading, each: &B, x: &mut [f64])
 {
     let mut left = a.n;
     while 0 < left {
-        if 1 < left && a.s.nonzero_below(a.a, left - 2) {
-            left -= 2;
-            each.two(left, &mut *x);
-        } else {
-            left -= 1;
+        let size = a.s.size_above(a.a, left);
+        left -= size;
+        if size == 1 {
             each.one(left, &mut *x);
+        } else {
+            each.two(left, &mut *x);
         }
     }
 }
