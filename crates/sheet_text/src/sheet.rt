@@ -90,10 +90,11 @@ fn request_in<'a>(
     Ok(r)
 }
 
-// Makes the move that a request asks for, and prints what it gave.
-fn run(out: &mut [u8], r: &Request) -> usize
+// Makes the move that a request asks for, and prints what it gave. `out` stays where it is turned away.
+fn run(out: &mut [u8], r: &Request) -> Result<usize, Refusal>
     requires { (Text.sheet_room ≤ length out.old) × (length r.now.form.now ≤ Text.word_room) × (length r.now.factor.now ≤ Text.word_room) }
-    ensures { (result ≤ length out.new) × Put out.old 0 (Text.printed_move (asked (request r.now))) out.new result }
+    ensures ok { IfOk result (λ n. (n ≤ length out.new) × Put out.old 0 (Text.printed_move (asked (request r.now))) out.new n) }
+    ensures err { IfErr result (λ e. (out.new ≡ out.old) × (Text.answer_line (line e) ≡ Text.printed_move (asked (request r.now)))) }
 {
     let mut x = [0.0; WORD_ROOM];
     let mut y = [0.0; WORD_ROOM];
@@ -101,21 +102,18 @@ fn run(out: &mut [u8], r: &Request) -> usize
     numbers_of(&mut y, r.factor);
     let x = &mut x[..r.form.len()];
     let y = &mut y[..r.factor.len()];
-    let m = reorder_schur(r.n, r.n, x, y, r.from, r.to);
-    if m.answer != 0 {
-        return put_answer(out, m.answer);
-    }
+    let m = reorder_schur(r.n, r.n, x, y, r.from, r.to)?;
     let mut t = [0; WORD_ROOM];
     let mut u = [0; WORD_ROOM];
     words_of(&mut t, x);
     words_of(&mut u, y);
     let t = &t[..x.len()];
     let u = &u[..y.len()];
-    put_accepted(out, m.landed, m.swaps, m.declined, t, u)
+    Ok(put_accepted(out, m.landed, m.swaps, m.declined, t, u))
 }
 
-// The sheet of a text that is a request's, at the start of `out`, and zeros after it: answers how many
-// bytes it has. Where there is no such request, every byte of `out` is zero.
+// The sheet of a text that is a request's whose move is made, at the start of `out`, and zeros after it: answers
+// how many bytes it has. Where the text or the move is turned away, every byte of `out` is zero.
 fn sheet_of(out: &mut [u8], input: &[u8]) -> Result<usize, Refusal>
     requires { Text.sheet_room ≤ length out.old }
     ensures ok { IfOk result (λ n. Put (replicate (length out.old) 0) 0 (Text.sheet_of input.now) out.new n) }
@@ -125,7 +123,7 @@ fn sheet_of(out: &mut [u8], input: &[u8]) -> Result<usize, Refusal>
     let mut u = [0; WORD_ROOM];
     let found = request_in(out, &mut t, &mut u, input);
     out.fill(0);
-    Ok(run(out, &found?))
+    run(out, &found?)
 }
 
 // The sheet of a text at the start of `out`, and zeros after it: answers how many bytes it has. Where
