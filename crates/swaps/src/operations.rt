@@ -1,8 +1,7 @@
 // Operations on rows and columns of a form, and on columns of a factor.
-ghost use Rattle.std.specs.Prelude.{◌≡◌, ℕ, ◌+◌, ◌-◌, ◌*◌, ◌<◌, ◌≤◌, length, get_or};
+ghost use Rattle.std.specs.Prelude.{◌≡◌, ℕ, ◌-◌, ◌≤◌, length, get_or};
 ghost use Rattle.std.specs.Float.{binary64};
 ghost use Rattle.model.specs.Columns as Columns;
-ghost use Rattle.model.specs.Form.{place};
 ghost use Rattle.model.specs.Exchange.{factor_rows};
 ghost use Rattle.form.specs.Shaped.{Holds, Beside};
 ghost use Rattle.swaps.specs.Lines.{Inside, change_at};

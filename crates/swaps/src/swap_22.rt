@@ -1,5 +1,5 @@
 // A 2-block against a 2-block, tried on a copy of the window first.
-ghost use Rattle.std.specs.Prelude.{◌≡◌, Bool, cond, ◌+◌, ◌≤◌};
+ghost use Rattle.std.specs.Prelude.{◌≡◌, cond, ◌+◌, ◌≤◌};
 ghost use Rattle.std.specs.Float.{binary64};
 ghost use Rattle.model.specs.Swaps as Swaps;
 ghost use Rattle.sylvester.specs.View.{sylvester};
