@@ -148,7 +148,11 @@ impl EachBlock for Columns<'_> {
         s.put(&mut *v, k, k, 1.0);
         let top = s.place(0, k);
         negate_run(self.t, top, k, &mut *v);
-        let a = Leading { s, a: self.t, n: k };
+        let a = Leading {
+            ld: s.ld,
+            n: k,
+            a: self.t,
+        };
         let x = &mut v[top..top + k];
         solve_real_shifted_upper_quasi_triangular_system(a, p, self.norm, x);
     }
@@ -160,7 +164,11 @@ impl EachBlock for Columns<'_> {
         let q = self.open_columns(j, &mut *v);
         let p = s.get(self.t, j + 1, j + 1);
         let top = s.place(0, j);
-        let a = Leading { s, a: self.t, n: j };
+        let a = Leading {
+            ld: s.ld,
+            n: j,
+            a: self.t,
+        };
         let x = &mut v[top..top + (s.ld + j)];
         solve_cplx_shifted_upper_quasi_triangular_system(a, p, q, self.norm, x);
     }
@@ -177,6 +185,7 @@ pub fn evd_from_real_schur(n: usize, ld: usize, t: &[f64], v: &mut [f64]) -> Res
     }
     quasi_triangular(s, t)?;
     let norm = form_norm(s, t);
-    blocks_down(Leading { s, a: t, n: s.n }, &Columns { s, t, norm }, v);
+    let a = Leading { ld, n, a: t };
+    blocks_down(a, &Columns { s, t, norm }, v);
     Ok(())
 }

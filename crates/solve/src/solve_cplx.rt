@@ -44,23 +44,23 @@ struct Shifted<'a> {
 impl Shifted<'_> {
     // Row i of the two columns.
     fn at(&self, i: usize, x: &[f64]) -> Complex
-        requires { (i < self.now.a.n) × (self.now.a.s.ld + self.now.a.n ≤ length x.now) }
-        ensures { (result.re ≡ at x.now i) × (result.im ≡ at x.now (self.now.a.s.ld + i)) }
+        requires { (i < self.now.a.n) × (self.now.a.ld + self.now.a.n ≤ length x.now) }
+        ensures { (result.re ≡ at x.now i) × (result.im ≡ at x.now (self.now.a.ld + i)) }
     {
         Complex {
             re: x[i],
-            im: x[self.a.s.ld + i],
+            im: x[self.a.ld + i],
         }
     }
 
     // Row i of the two columns set.
     #[tactic(auto, unfolding(model::specs::Vectors::complex_set))]
     fn put(&self, i: usize, w: Complex, x: &mut [f64])
-        requires { (i < self.now.a.n) × (self.now.a.s.ld + self.now.a.n ≤ length x.old) }
-        ensures { x.new ≡ Vectors.complex_set self.now.a.s.ld x.old i (complex w) }
+        requires { (i < self.now.a.n) × (self.now.a.ld + self.now.a.n ≤ length x.old) }
+        ensures { x.new ≡ Vectors.complex_set self.now.a.ld x.old i (complex w) }
     {
         x[i] = w.re;
-        x[self.a.s.ld + i] = w.im;
+        x[self.a.ld + i] = w.im;
     }
 
     // What stands on the diagonal where A has d.
@@ -76,11 +76,11 @@ impl Shifted<'_> {
     // Rows i and i + 1 less their inner products with the rows below.
     #[tactic(auto, unfolding(model::specs::Vectors::cplx_rest))]
     fn rest_of(&self, i: usize, x: &[f64]) -> Rows
-        requires { (i + 1 < self.now.a.n) × (self.now.a.s.ld + self.now.a.n ≤ length x.now) }
-        ensures { (complex result.upper ≡ Vectors.cplx_rest binary64 self.now.a.s.ld self.now.a.a.now self.now.a.n x.now i (i + 2)) × (complex result.lower ≡ Vectors.cplx_rest binary64 self.now.a.s.ld self.now.a.a.now self.now.a.n x.now (i + 1) (i + 2)) }
+        requires { (i + 1 < self.now.a.n) × (self.now.a.ld + self.now.a.n ≤ length x.now) }
+        ensures { (complex result.upper ≡ Vectors.cplx_rest binary64 self.now.a.ld self.now.a.a.now self.now.a.n x.now i (i + 2)) × (complex result.lower ≡ Vectors.cplx_rest binary64 self.now.a.ld self.now.a.a.now self.now.a.n x.now (i + 1) (i + 2)) }
     {
         let a = self.a;
-        let ld = a.s.ld;
+        let ld = a.ld;
         let count = a.n - (i + 2);
         let re = Strided::run(x, i + 2, count);
         let im = Strided::run(x, ld + (i + 2), count);
@@ -103,16 +103,16 @@ impl Shifted<'_> {
 impl EachBlock for Shifted<'_> {
     ghost rows = { λ m. m.a.n };
 
-    ghost fits = { λ m len. m.a.s.ld + m.a.n ≤ len };
+    ghost fits = { λ m len. m.a.ld + m.a.n ≤ len };
 
-    ghost one = { λ m. Vectors.cplx_one binary64 m.a.s.ld m.a.a.now m.p m.q m.norm m.a.n };
+    ghost one = { λ m. Vectors.cplx_one binary64 m.a.ld m.a.a.now m.p m.q m.norm m.a.n };
 
-    ghost two = { λ m. Vectors.cplx_two binary64 m.a.s.ld m.a.a.now m.p m.q m.norm m.a.n };
+    ghost two = { λ m. Vectors.cplx_two binary64 m.a.ld m.a.a.now m.p m.q m.norm m.a.n };
 
     #[tactic(auto, unfolding(model::specs::Vectors::cplx_one))]
     fn one(&self, i: usize, x: &mut [f64]) {
         let a = self.a;
-        let ld = a.s.ld;
+        let ld = a.ld;
         let count = a.n - (i + 1);
         let re = Strided::run(&*x, i + 1, count);
         let im = Strided::run(&*x, ld + (i + 1), count);
@@ -145,8 +145,8 @@ pub fn solve_cplx_shifted_upper_quasi_triangular_system(
     norm: f64,
     x: &mut [f64],
 )
-    requires { a.s.ld + a.n ≤ length x.old }
-    ensures { x.new ≡ Vectors.solve_cplx binary64 a.entry.s.ld a.entry.a.now p q norm a.entry.n x.old }
+    requires { a.ld + a.n ≤ length x.old }
+    ensures { x.new ≡ Vectors.solve_cplx binary64 a.entry.ld a.entry.a.now p q norm a.entry.n x.old }
 {
     blocks_down(a, &Shifted { a, p, q, norm }, x);
 }

@@ -38,9 +38,9 @@ impl EachBlock for Shifted<'_> {
 
     ghost fits = { λ m len. m.a.n ≤ len };
 
-    ghost one = { λ m. Vectors.real_one binary64 m.a.s.ld m.a.a.now m.p m.norm m.a.n };
+    ghost one = { λ m. Vectors.real_one binary64 m.a.ld m.a.a.now m.p m.norm m.a.n };
 
-    ghost two = { λ m. Vectors.real_two binary64 m.a.s.ld m.a.a.now m.p m.a.n };
+    ghost two = { λ m. Vectors.real_two binary64 m.a.ld m.a.a.now m.p m.a.n };
 
     #[tactic(auto, unfolding(model::specs::Vectors::real_one))]
     fn one(&self, i: usize, x: &mut [f64]) {
@@ -77,7 +77,7 @@ pub fn solve_real_shifted_upper_quasi_triangular_system(
     x: &mut [f64],
 )
     requires { a.n ≤ length x.old }
-    ensures { x.new ≡ Vectors.solve_real binary64 a.entry.s.ld a.entry.a.now p norm a.entry.n x.old }
+    ensures { x.new ≡ Vectors.solve_real binary64 a.entry.ld a.entry.a.now p norm a.entry.n x.old }
 {
     blocks_down(a, &Shifted { a, p, norm }, x);
 }

@@ -29,11 +29,11 @@ pub trait EachBlock {
 #[tactic(auto, using(crate::proofs::Left::le_zero), unfolding(model::specs::Vectors::blocks_down))]
 pub fn blocks_down<B: EachBlock>(a: Leading, each: &B, x: &mut [f64])
     requires { (a.n ≤ B.rows each.now) × B.fits each.now (length x.old) }
-    ensures { x.new ≡ Vectors.blocks_down binary64 a.entry.s.ld a.entry.a.now (B.one each.now) (B.two each.now) a.entry.n x.old }
+    ensures { x.new ≡ Vectors.blocks_down binary64 a.entry.ld a.entry.a.now (B.one each.now) (B.two each.now) a.entry.n x.old }
 {
     let mut left = a.n;
     while 0 < left {
-        let size = a.s.size_above(a.a, left);
+        let size = a.size_above(left);
         left -= size;
         if size == 1 {
             each.one(left, &mut *x);

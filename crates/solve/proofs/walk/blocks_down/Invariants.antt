@@ -10,7 +10,7 @@ abbrev pub invariant-loop-left : goal.invariant-loop-left
 invariant-loop-left g l =
     (l.left ≤ l.a.n)
     × (length l.x ≡ length l.initial.x)
-    × (blocks_down binary64 l.a.s.ld l.a.a.now (g.B.EachBlock.one l.each) (g.B.EachBlock.two l.each) l.left l.x ≡ blocks_down binary64 l.a.s.ld l.a.a.now (g.B.EachBlock.one l.each) (g.B.EachBlock.two l.each) l.a.n l.initial.x)
+    × (blocks_down binary64 l.a.ld l.a.a.now (g.B.EachBlock.one l.each) (g.B.EachBlock.two l.each) l.left l.x ≡ blocks_down binary64 l.a.ld l.a.a.now (g.B.EachBlock.one l.each) (g.B.EachBlock.two l.each) l.a.n l.initial.x)
 
 abbrev pub decreases-loop-left : goal.decreases-loop-left
 decreases-loop-left g l = l.left
