@@ -39,7 +39,8 @@ fn swap_of(s: Shape, t: &mut [f64], u: &mut [f64], j: usize, n1: usize, n2: usiz
     Counts::of_one(declined)
 }
 
-// The rows from row j on standardised if there are two.
+// The rows from row j on standardised if there are two. In line, since mostly there is one.
+#[inline(always)]
 fn standardise_if(s: Shape, t: &mut [f64], u: &mut [f64], size: usize, j: usize)
     requires { Holds s t.old × Beside s u.old × (j + size ≤ s.n) }
     ensures { Done s.ld s.n u.old t.new u.new (Exchange.standardise_if binary64 s.ld s.n size j t.old) }

@@ -94,7 +94,9 @@ impl Moving {
     }
 }
 
-// One exchange more: the row stays, and is moved on where the step ends.
+// One exchange more: the row stays, and is moved on where the step ends. In line, so that the numbers of a
+// move stay in registers.
+#[inline(always)]
 fn trying<K: Kind>(
     s: Shape,
     t: &mut [f64],
