@@ -1,5 +1,4 @@
 pub mod Short
-pub mod Newton
 pub mod NoNan
 pub mod Left
 pub mod Lines

@@ -1,14 +1,9 @@
--- How long products and roots are. Assumes nothing.
+-- How long roots are. Assumes nothing.
 use mathlib.Core.Path.{◌≡◌}
-use Prim.Native.Nat.{ℕ, ◌*◌, ◌^◌, ◌≤◌, ◌<◌}
-use native.Mathlib.Nat.{mul-le-mul}
+use Prim.Native.Nat.{ℕ, ◌*◌, ◌^◌, ◌<◌}
 use native.Mathlib.Omega.{arith}
 use Rattle.model.specs.Root.{root}
 use Rattle.laws.proofs.WholeRoot.{root_is, root_lt}
-
--- products of two numbers of 32 bits
-pub product : (a b : ℕ) → a < 2 ^ 32 → b < 2 ^ 32 → a * b ≤ 0xffff_ffff * 0xffff_ffff
-product a b h k = let x : a ≤ 0xffff_ffff = omega arith in let y : b ≤ 0xffff_ffff = omega arith in mul-le-mul x y
 
 -- a root of a number of 108 digits has 54
 pub short : (d r : ℕ) → d < 2 ^ 54 → r ≡ root (d * 2 ^ 54) → r < 2 ^ 54

@@ -5,7 +5,7 @@ ghost use Rattle.digits.specs.Digits.{Left, NearInverse, NewtonStep, NearHalf};
 
 use crate::table::line_at;
 
-// The first 53 or 54 digits of a number of 107 or 108 that a root is taken of.
+// d: the first 53 or 54 digits of a number of 107 or 108 that a root is taken of.
 #[derive(Clone, Copy)]
 pub struct Radicand {
     pub digits: u64,
@@ -30,6 +30,32 @@ pub fn left(x: u64, y: u64, end: u64) -> Option<u64>
     } else {
         None
     }
+}
+
+// One step of Newton's, without a division, from y near 2^32 / √m, with m = d / 2^52: a root just below
+// 2^31 * √m, and a better y.
+fn near_root(d: u64, y: u64) -> Near
+    requires { (d < 2 ^ 54) × NearInverse d y }
+    ensures { NewtonStep d y result.root result.inverse }
+{
+    let t = d / 0x40_0000 * y / 0x8000_0000 % 0x1_0000_0000;
+    let step = 0xbfff_ffff - t * y / 0x2_0000_0000;
+    Near {
+        root: t * step / 0x8000_0000 % 0x1_0000_0000,
+        inverse: y * step / 0x8000_0000 % 0x1_0000_0000,
+    }
+}
+
+// Half the root of a number of 108 digits, nearly, from its first 54, d, and its first 64, x, and the
+// inverse of the root. After the step of Newton's, the digits that are left are those of what is left of
+// x, over twice the root. None, where the step's root is not near.
+pub fn near_half(d: u64, x: u64, y: u64) -> Option<u64>
+    requires { (d < 2 ^ 54) × NearInverse d y × (2 ^ 62 ≤ x) }
+    ensures { NearHalf d x y result }
+{
+    let Near { root, inverse } = near_root(d, y);
+    let rest = left(x, root * root, 0xf_0000_0000)?;
+    Some(root * 0x20_0000 + (rest / 16 * inverse + 0x41_0000_0000) / 0x80_0000_0000)
 }
 
 impl Radicand {
@@ -87,38 +113,12 @@ impl Radicand {
         left(u * 0x800_0000, q * q, k * 8).is_some()
     }
 
-    // One step of Newton's, without a division, from y near 2^32 / √m, with m = d / 2^52: a root just below
-    // 2^31 * √m, and a better y.
-    fn near_root(self, y: u64) -> Near
-        requires { NearInverse self.digits y }
-        ensures { NewtonStep self.digits y result.root result.inverse }
-    {
-        let t = self.digits / 0x40_0000 * y / 0x8000_0000 % 0x1_0000_0000;
-        let step = 0xbfff_ffff - t * y / 0x2_0000_0000;
-        Near {
-            root: t * step / 0x8000_0000 % 0x1_0000_0000,
-            inverse: y * step / 0x8000_0000 % 0x1_0000_0000,
-        }
-    }
-
-    // Half the root of a number of 108 digits, nearly, from its first 54, d, and its first 64, x, and the
-    // inverse of the root. After the step of Newton's, the digits that are left are those of what is left
-    // of x, over twice the root. None, where the step's root is not near.
-    pub fn near_half(self, x: u64, y: u64) -> Option<u64>
-        requires { NearInverse self.digits y × (2 ^ 62 ≤ x) }
-        ensures { NearHalf self.digits x y result }
-    {
-        let Near { root, inverse } = self.near_root(y);
-        let rest = left(x, root * root, 0xf_0000_0000)?;
-        Some(root * 0x20_0000 + (rest / 16 * inverse + 0x41_0000_0000) / 0x80_0000_0000)
-    }
-
     // The root of d * 2^52, rounded to the nearest. How its digits are found is free, since they are tested;
     // where the test fails, about once in 200, they are worked out.
     pub fn nearest_root(self) -> u64
         ensures { result ≡ (Root.root (self.digits * 2 ^ 54) + 1) / 2 }
     {
-        match self.near_half(self.digits * 0x400, self.near_inverse()) {
+        match near_half(self.digits, self.digits * 0x400, self.near_inverse()) {
             Some(k) if self.is_nearest(k) => k,
             _ => (self.whole_root() + 1) / 2,
         }

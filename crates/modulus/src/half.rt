@@ -4,7 +4,7 @@ ghost use Rattle.laws.specs.Cut.{NearestHalf};
 ghost use Rattle.modulus.specs.Modulus.{wide};
 
 use crate::squares::{Long, Wide, square};
-use digits::whole::{Radicand, left};
+use digits::whole::{Radicand, left, near_half};
 use std::cmp::Ordering;
 
 impl Long {
@@ -35,10 +35,7 @@ impl Long {
         let Some(d) = left(self.whole.high, t.high, 16) else {
             return false;
         };
-        match left(d * 0x40_0000_0000_0000 + self.whole.low, t.low, k * 8) {
-            Some(u) => 0 < u,
-            None => false,
-        }
+        left(d * 0x40_0000_0000_0000 + self.whole.low, t.low, k * 8).is_some_and(|u| 0 < u)
     }
 
     // Half the root, rounded, where k is near and fails the test: one more or one less by the same test,
@@ -64,7 +61,7 @@ impl Long {
         let Wide { high, low } = self.whole;
         let first = Radicand { digits: high };
         let x = high * 0x400 + low / 0x1000_0000_0000;
-        match first.near_half(x, first.near_inverse()) {
+        match near_half(high, x, first.near_inverse()) {
             Some(k) if self.between(k) => k,
             Some(k) => self.beside(k),
             None => self.stepped(0),

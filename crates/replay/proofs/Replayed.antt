@@ -1,28 +1,22 @@
 -- What the definitions of a line and of the input say, step by step. Assumes nothing.
 use mathlib.Core.Path.{◌≡◌, refl, sym, ap, ◌∙◌}
-use Prim.Native.Nat.{ℕ, ◌+◌, ◌-◌, ◌*◌, ◌≤◌, ◌<◌}
+use Prim.Native.Nat.{ℕ, ◌+◌, ◌-◌, ◌≤◌, ◌<◌}
 use native.Mathlib.Numerals.{add-one}
-use native.Mathlib.Nat.{le_trans}
 use native.Mathlib.Omega.{arith}
-use mathlib.Core.Bool.{Bool, true, false}
 use mathlib.Core.List.{List, [], ◌∷◌, ◌++◌}
-use lib.Dec.{eqb}
-use lib.ListN.{length, get_or, take, drop, set, length-take, drop_of_length-le}
+use lib.ListN.{length, get_or, take, drop, drop_of_length-le}
 use lib.Seq.{drop-cons}
-use borrow.Author.Tests.{eq-eqb, ne_eqb, eqb-false, lt-ltb, le-ltb}
-use Rattle.std.proofs.Common.{Option, Some, None, IfSome}
+use borrow.Author.Tests.{ne_eqb}
+use Rattle.std.proofs.Common.{Option, Some, None}
 use Rattle.replay_text.specs.Text.{Read, words_of}
 use Rattle.replay_text.specs.Names.{name_end, call_named}
-use Rattle.replay_text.specs.Counts as Counts
 use Rattle.replay_text.specs.declared.name.Call.{Call}
-use Rattle.replay_text.specs.declared.count.Tally.{Tally}
 use Rattle.replay_text.specs.declared.outcome.Outcome.{Outcome}
 use Rattle.replay_text.proofs.Found.{Fit, fit}
 use Rattle.replay_text.proofs.Names.{name_bound}
 use Rattle.replay.specs.Table.{shown}
-use Rattle.replay.specs.declared.line.Desk.{Desk}
 use Rattle.replay.specs.declared.State.{State}
-use Rattle.replay.specs.Replayed.{Replayed, Leads, shown_by, told, showing, replayed, refused, ended, taken, taken_all}
+use Rattle.replay.specs.Replayed.{Leads, shown_by, taken, taken_all}
 
 -- ---- a line
 

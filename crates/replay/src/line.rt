@@ -21,10 +21,13 @@ fn told(end: usize, outcome: Outcome) -> Option<usize>
     (outcome == Outcome::Differs).then_some(end + 17)
 }
 
+// How many words a line may have: those of two forms and two factors of 64 columns, 128 places apart.
+pub const WORDS: usize = 33000;
+
 // The room for a line's words, and the counts.
 #[derive(Drop)]
 pub struct Desk {
-    pub words: [u64; 33000],
+    pub words: [u64; WORDS],
     pub tally: Tally,
 }
 

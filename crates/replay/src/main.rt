@@ -10,29 +10,30 @@ mod table;
 ghost use Rattle.std.specs.Prelude.{◌≡◌, replicate};
 ghost use Rattle.replay.specs.Replayed as Replayed;
 
-use line::Desk;
+use line::{Desk, WORDS};
 use replay_text::count::Tally;
 use std::io;
 use std::io::Read;
 
-// Room for a line with two forms and two factors of 64 columns, 128 places apart.
-fn line_buffer() -> [u8; 600000]
-    ensures { result ≡ replicate 600000 0 }
+// How many bytes a line of WORDS words may have.
+const LINE: usize = 600000;
+
+fn line_buffer() -> [u8; LINE]
+    ensures { result ≡ replicate LINE 0 }
 {
-    [0; 600000]
+    [0; LINE]
 }
 
-// Room for its words.
-fn word_buffer() -> [u64; 33000]
-    ensures { result ≡ replicate 33000 0 }
+fn word_buffer() -> [u64; WORDS]
+    ensures { result ≡ replicate WORDS 0 }
 {
-    [0; 33000]
+    [0; WORDS]
 }
 
 // The bytes of the line that is not ended, in a buffer, and the desk.
 #[derive(Drop)]
 struct State {
-    line: [u8; 600000],
+    line: [u8; LINE],
     len: usize,
     desk: Desk,
 }

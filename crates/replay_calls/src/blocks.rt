@@ -22,7 +22,12 @@ pub fn lahqr_schur22(w: &[u64]) -> Outcome
     let &[p, q, r, s, a, b, c, d, re1, im1, re2, im2, cs, sn] = w else {
         return Outcome::Malformed;
     };
-    let s = schur22::lahqr_schur22::lahqr_schur22(float_of(p), float_of(q), float_of(r), float_of(s));
+    let s = schur22::lahqr_schur22::lahqr_schur22(
+        float_of(p),
+        float_of(q),
+        float_of(r),
+        float_of(s),
+    );
     let x = s.block;
     let v = Values::from(s.eigenvalues);
     judge(
@@ -43,7 +48,26 @@ pub fn lahqr_schur22(w: &[u64]) -> Outcome
 pub fn lasy2(w: &[u64]) -> Outcome
     ensures { result ≡ Lines.lasy2 w.now }
 {
-    let &[a, b, c, d, e, f, g, h, i, j, k, l, x00, x10, x01, x11, scale] = w else {
+    let &[
+        a,
+        b,
+        c,
+        d,
+        e,
+        f,
+        g,
+        h,
+        i,
+        j,
+        k,
+        l,
+        x00,
+        x10,
+        x01,
+        x11,
+        scale,
+    ] = w
+    else {
         return Outcome::Malformed;
     };
     let s = sylvester::lasy2::lasy2(square(a, b, c, d), square(e, f, g, h), square(i, j, k, l));

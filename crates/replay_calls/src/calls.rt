@@ -1,13 +1,15 @@
 // One function for each call: it takes a line's words without the index, makes the call with the
 // given ones and compares what it gives with the rest. oracle/README.md lists the words.
-ghost use Rattle.std.specs.Prelude.{◌≡◌, ◌≤◌, length, replicate};
+ghost use Rattle.std.specs.Prelude.{◌≡◌, ◌≤◌, List, length, replicate};
 ghost use Rattle.std.specs.Float.{binary64};
 ghost use Rattle.std.specs.Float.Ieee.{Float, of_bits};
-ghost use Rattle.linalg.specs.View.{rotation};
+ghost use Rattle.linalg.specs.View.{rotation, reflected};
 ghost use Rattle.replay_calls.specs.Lines as Lines;
 
 use bits::float::{float_of, floats_of};
+use linalg::householder::Reflection;
 use linalg::jacobi::JacobiRotation;
+use refusal::Refusal;
 use replay_text::float::{are_words, is_word};
 use replay_text::outcome::{Outcome, judge};
 
@@ -106,6 +108,24 @@ fn room() -> [f64; 66]
     [0.0; 66]
 }
 
+// The number and the four results of a reflection: zeros where it is turned away.
+fn answered(made: Result<Reflection, Refusal>) -> (usize, Reflection)
+    ensures { (tail : List Float) → record { answer = result.0; head = result.1.head; tau = result.1.tau; head_with_beta_inv = result.1.head_with_beta_inv; norm = result.1.norm; tail = tail } ≡ reflected made tail }
+{
+    match made {
+        Ok(r) => (0, r),
+        Err(refusal) => {
+            let nothing = Reflection {
+                head: 0.0,
+                tau: 0.0,
+                head_with_beta_inv: 0.0,
+                norm: 0.0,
+            };
+            (usize::from(refusal), nothing)
+        }
+    }
+}
+
 // The length, the head, the places of the tail; the number, the four results, the places.
 pub fn make_householder_in_place(w: &[u64]) -> Outcome
     ensures { result ≡ Lines.make_householder_in_place w.now }
@@ -123,8 +143,9 @@ pub fn make_householder_in_place(w: &[u64]) -> Outcome
     }
     let mut tail = room();
     floats_of(&w[2..2 + p], &mut tail[..p]);
-    let r = linalg::householder::make_householder_in_place(float_of(w[1]), &mut tail[..n]);
-    let answer = r.answer as u64 == w[2 + p];
+    let made = linalg::householder::make_householder_in_place(float_of(w[1]), &mut tail[..n]);
+    let (number, r) = answered(made);
+    let answer = number as u64 == w[2 + p];
     let head = is_word(r.head, w[3 + p]);
     let tau = is_word(r.tau, w[4 + p]);
     let inv = is_word(r.head_with_beta_inv, w[5 + p]);

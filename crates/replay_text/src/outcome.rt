@@ -9,6 +9,7 @@ pub enum Outcome {
     Malformed,
 }
 
+// Not `From<bool>`: there `Outcome::from(true)` would not show what is true.
 pub fn judge(same: bool) -> Outcome
     ensures { result ≡ (if same then Outcome.Same else Outcome.Differs) }
 {

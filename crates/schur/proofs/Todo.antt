@@ -1,7 +1,7 @@
 -- The small exchanges still to do: what is pushed is next. Assumes nothing.
 use mathlib.Core.Path.{◌≡◌, ap, ◌∙◌}
 use Prim.Native.Nat.{ℕ}
-use mathlib.Core.List.{List, [], ◌∷◌, ◌++◌, map, reverse, reverse-append}
+use mathlib.Core.List.{List, [], ◌∷◌, ◌++◌, map, reverse-append}
 use lib.ListN.{length, length-map, length-reverse}
 use Rattle.laws_exchange.specs.Loop as Loop
 use Rattle.schur.specs.Todo.{seen, waiting}

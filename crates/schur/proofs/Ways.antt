@@ -1,6 +1,6 @@
 -- One exchange more on the way of a move, and its steps by the code's tests. Assumes nothing.
 use mathlib.Core.Path.{◌≡◌, refl, sym, ap, ◌∙◌, subst}
-use Prim.Native.Nat.{ℕ, ◌+◌, ◌-◌, ◌≤◌, ◌<◌}
+use Prim.Native.Nat.{ℕ, ◌+◌, ◌-◌, ◌<◌}
 use native.Mathlib.Omega.{arith}
 use mathlib.Core.Bool.{true, false, ◌&&◌, cond}
 use mathlib.Core.List.{List, []}
@@ -181,22 +181,22 @@ module _ (k : Kind) {s : Shape} {t u t₁ u₁ : List Float} {m : Moving} {r : R
 abbrev start : Shape → List Float → ℕ → Move.Moving
 start s t from = record { here = from; nbf = Move.size_at binary64 s.ld s.n t from; change = unchanged t; exchanges = [] }
 
-module _ (k : Kind) (s : Shape) (from to : ℕ) (b : Block) {u t : List Float} (e : number b ≡ Move.size_at binary64 s.ld s.n t from) where
-  starts : Stands s u t u (record { here = from; block = b; counts = record { swaps = 0; declined = 0 } }) (start s t from)
+module _ (k : Kind) (s : Shape) (from to : ℕ) (b : Block) (c : Counts) {u t : List Float} (e : number b ≡ Move.size_at binary64 s.ld s.n t from) (z : (c.swaps ≡ 0) × (c.declined ≡ 0)) where
+  starts : Stands s u t u (record { here = from; block = b; counts = c }) (start s t from)
   unfolding on_factor declines_in
-  starts = record { here = refl; nbf = e; step = record { done = record { form = refl; factor = refl }; swaps = refl; declined = refl }; kept = refl }
+  starts = record { here = refl; nbf = e; step = record { done = record { form = refl; factor = refl }; swaps = z.0; declined = z.1 }; kept = refl }
 
-  pub stays-is : from ≡ to → Stood s u t u (Ok (record { here = from; block = b; counts = record { swaps = 0; declined = 0 } })) (walk_from k binary64 s.ld s.n from to t)
+  pub stays-is : from ≡ to → Stood s u t u (Ok (record { here = from; block = b; counts = c })) (walk_from k binary64 s.ld s.n from to t)
   unfolding walk_from
   stays-is q = rw (eq-eqb from to q) (record { stopped = refl; stands = starts })
 
   pub goes_down : {t₁ u₁ : List Float} {r : Result Moving Moving} {nbf nbl goal : ℕ} → from < to → nbf ≡ number b → nbl ≡ Move.size_at binary64 s.ld s.n t to → goal ≡ Move.goal_down nbf nbl to
-      → Takes s t u (record { here = from; block = b; counts = record { swaps = 0; declined = 0 } }) t₁ u₁ r (walk_down k s.n binary64 s.ld s.n goal) → Stood s u t₁ u₁ r (walk_from k binary64 s.ld s.n from to t)
+      → Takes s t u (record { here = from; block = b; counts = c }) t₁ u₁ r (walk_down k s.n binary64 s.ld s.n goal) → Stood s u t₁ u₁ r (walk_from k binary64 s.ld s.n from to t)
   unfolding walk_from
-  goes_down l a c g f = let d : from ≡ to → ⊥ = λ q. omega arith in stood_as (rw (ne_eqb from to d, lt-ltb from to l, g, a, e, c)) (f u (start s t from) starts)
+  goes_down l a d g f = let h : from ≡ to → ⊥ = λ q. omega arith in stood_as (rw (ne_eqb from to h, lt-ltb from to l, g, a, e, d)) (f u (start s t from) starts)
 
   pub goes_up : {t₁ u₁ : List Float} {r : Result Moving Moving} → to < from
-      → Takes s t u (record { here = from; block = b; counts = record { swaps = 0; declined = 0 } }) t₁ u₁ r (walk_up k s.n binary64 s.ld s.n to) → Stood s u t₁ u₁ r (walk_from k binary64 s.ld s.n from to t)
+      → Takes s t u (record { here = from; block = b; counts = c }) t₁ u₁ r (walk_up k s.n binary64 s.ld s.n to) → Stood s u t₁ u₁ r (walk_from k binary64 s.ld s.n from to t)
   unfolding walk_from
   goes_up l f = let d : from ≡ to → ⊥ = λ q. omega arith in stood_as (rw (ne_eqb from to d, le-ltb from to (omega arith))) (f u (start s t from) starts)
 

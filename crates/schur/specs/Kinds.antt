@@ -1,5 +1,5 @@
 -- What the exchange of a kind makes. Definitions only. Assumes nothing.
-use Rattle.std.specs.Prelude.{◌≡◌, ℕ, ◌≤◌, Bool, not, ◌&&◌, List, eqb, Float, Result, Ok, Err, is_err}
+use Rattle.std.specs.Prelude.{◌≡◌, ℕ, ◌≤◌, not, ◌&&◌, List, eqb, Float, Result, Ok, Err, is_err}
 use Rattle.model.specs.Stopping as Stopping
 use Rattle.form.specs.declared.shape.Shape.{Shape}
 use Rattle.swaps.specs.Done.{Step}

@@ -1,5 +1,5 @@
 // The exchange of two neighbouring blocks.
-ghost use Rattle.std.specs.Prelude.{◌≡◌, ◌&&◌, ◌+◌, ◌*◌, ◌≤◌, eqb};
+ghost use Rattle.std.specs.Prelude.{◌≡◌, ◌&&◌, ◌+◌, ◌≤◌, eqb};
 ghost use Rattle.std.specs.Float.{binary64};
 ghost use Rattle.model.specs.Form as Form;
 ghost use Rattle.model.specs.Swaps as Swaps;

@@ -1,5 +1,5 @@
 // A move on its way: one exchange of a kind, and one step down or up.
-ghost use Rattle.std.specs.Prelude.{◌≡◌, ℕ, ◌+◌, ◌-◌, ◌≤◌, ◌<◌, List, Float, MatchResult, IfOk};
+ghost use Rattle.std.specs.Prelude.{◌≡◌, ℕ, ◌+◌, ◌-◌, ◌≤◌, ◌<◌, List, Float, IfOk};
 ghost use Rattle.std.specs.Float.{binary64};
 ghost use Rattle.model.specs.Move as Move;
 ghost use Rattle.model.specs.Stopping as Stopping;

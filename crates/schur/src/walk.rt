@@ -1,5 +1,5 @@
 // The walk of a block, of either kind.
-ghost use Rattle.std.specs.Prelude.{◌≡◌, ◌+◌, ◌*◌, ◌≤◌, ◌<◌};
+ghost use Rattle.std.specs.Prelude.{◌+◌, ◌*◌, ◌≤◌, ◌<◌};
 ghost use Rattle.std.specs.Float.{binary64};
 ghost use Rattle.model.specs.Stopping as Stopping;
 ghost use Rattle.form.specs.Shaped.{Holds, Beside};
@@ -61,10 +61,7 @@ fn walk_from<K: Kind>(
     let start = Moving {
         here: from,
         block,
-        counts: Counts {
-            swaps: 0,
-            declined: 0,
-        },
+        counts: Counts::default(),
     };
     match from.cmp(&to) {
         Ordering::Equal => Ok(start),

@@ -1,15 +1,15 @@
 // A sheet whole. The text is read leniently, what was read is printed as a text again, and only
-// where that is the text that came is the text laid out as document 01 asks.
+// where that is the text that came is the text laid out as document 01 asks. That `out` has room for a
+// sheet is asked by each function: a struct that holds a `&mut` can have no ghost field that says it.
 ghost use Rattle.std.specs.Prelude.{◌≡◌, ◌≤◌, ◌<◌, ◌+◌, ◌*◌, true, length, replicate, OnOk, IfOk, IfErr};
 ghost use Rattle.model.specs.Text as Text;
 ghost use Rattle.refusal.specs.Line.{line};
 ghost use Rattle.sheet_words.specs.Put.{Put};
 ghost use Rattle.sheet_words.specs.View.{request};
-ghost use Rattle.schur.specs.View.{moved};
 ghost use Rattle.sheet_text.specs.Asked.{asked};
 
 use refusal::Refusal;
-use schur::reorder::{Moved, reorder_schur};
+use schur::reorder::reorder_schur;
 use sheet_words::float::{numbers_of, words_of};
 use sheet_words::print::{put_accepted, put_answer, put_request};
 use sheet_words::read::{number, words};
@@ -18,7 +18,8 @@ use sheet_words::request::Request;
 // The bytes that a text has at most.
 pub const TEXT_BYTES: usize = 40000;
 
-// The words of a form or a factor that are read: 40,000 bytes hold at most 2352 words of 17 bytes.
+// The words of a form or a factor that are read: 40,000 bytes hold at most 2352 words of 17 bytes. They
+// have arrays of this size, since nothing here allocates.
 const WORD_ROOM: usize = 2353;
 
 // Bytes that any sheet fits: 140 and 17 for each of 2 × 2353 words.
@@ -34,9 +35,12 @@ fn factor_place(q: usize, k: usize) -> usize
     q + 17 * k + after
 }
 
-// What a text is taken to say. Its words are in `t` and `u`.
-fn read_request<'a>(t: &'a mut [u64], u: &'a mut [u64], s: &[u8]) -> Request<'a>
-    requires { (length t.old ≡ Text.word_room) × (length u.old ≡ Text.word_room) }
+// What a text is taken to say. Its words are read into `t` and `u`.
+fn read_request<'a>(
+    t: &'a mut [u64; WORD_ROOM],
+    u: &'a mut [u64; WORD_ROOM],
+    s: &[u8],
+) -> Request<'a>
     ensures { request result ≡ Text.request_of s.now }
 {
     let (n, at) = number(s, 2);
@@ -65,11 +69,11 @@ fn is_text_of(out: &mut [u8], s: &[u8], r: &Request) -> bool
 // The request whose text this is, or why there is none of at most 32 rows. `out` holds anything then.
 fn request_in<'a>(
     out: &mut [u8],
-    t: &'a mut [u64],
-    u: &'a mut [u64],
+    t: &'a mut [u64; WORD_ROOM],
+    u: &'a mut [u64; WORD_ROOM],
     s: &[u8],
 ) -> Result<Request<'a>, Refusal>
-    requires { (Text.sheet_room ≤ length out.old) × (length t.old ≡ Text.word_room) × (length u.old ≡ Text.word_room) }
+    requires { Text.sheet_room ≤ length out.old }
     ensures ok { IfOk result (λ r. (request r ≡ Text.request_of s.now) × (Text.laid_out s.now ≡ true) × (0 < r.n) × (r.n ≤ 32)) }
     ensures err { IfErr result (λ e. Text.answer_line (line e) ≡ Text.sheet_of s.now) }
 {
@@ -86,27 +90,11 @@ fn request_in<'a>(
     Ok(r)
 }
 
-// Prints what the move gave.
-fn print_moved(out: &mut [u8], m: Moved, x: &[f64], y: &[f64]) -> usize
-    requires { (Text.sheet_room ≤ length out.old) × (length x.now ≤ Text.word_room) × (length y.now ≤ Text.word_room) }
-    ensures { (result ≤ length out.new) × Put out.old 0 (Text.printed_move (moved m x.now y.now)) out.new result }
-{
-    if m.answer != 0 {
-        return put_answer(out, m.answer);
-    }
-    let mut t = [0; WORD_ROOM];
-    let mut u = [0; WORD_ROOM];
-    words_of(&mut t, x);
-    words_of(&mut u, y);
-    let t = &t[..x.len()];
-    let u = &u[..y.len()];
-    put_accepted(out, m.landed, m.swaps, m.declined, t, u)
-}
-
-// Makes the move that a request asks for, and prints what it gave.
-fn run(out: &mut [u8], r: &Request) -> usize
+// Makes the move that a request asks for, and prints what it gave. `out` stays where it is turned away.
+fn run(out: &mut [u8], r: &Request) -> Result<usize, Refusal>
     requires { (Text.sheet_room ≤ length out.old) × (length r.now.form.now ≤ Text.word_room) × (length r.now.factor.now ≤ Text.word_room) }
-    ensures { (result ≤ length out.new) × Put out.old 0 (Text.printed_move (asked (request r.now))) out.new result }
+    ensures ok { IfOk result (λ n. (n ≤ length out.new) × Put out.old 0 (Text.printed_move (asked (request r.now))) out.new n) }
+    ensures err { IfErr result (λ e. (out.new ≡ out.old) × (Text.answer_line (line e) ≡ Text.printed_move (asked (request r.now)))) }
 {
     let mut x = [0.0; WORD_ROOM];
     let mut y = [0.0; WORD_ROOM];
@@ -114,12 +102,18 @@ fn run(out: &mut [u8], r: &Request) -> usize
     numbers_of(&mut y, r.factor);
     let x = &mut x[..r.form.len()];
     let y = &mut y[..r.factor.len()];
-    let m = reorder_schur(r.n, r.n, x, y, r.from, r.to);
-    print_moved(out, m, x, y)
+    let m = reorder_schur(r.n, r.n, x, y, r.from, r.to)?;
+    let mut t = [0; WORD_ROOM];
+    let mut u = [0; WORD_ROOM];
+    words_of(&mut t, x);
+    words_of(&mut u, y);
+    let t = &t[..x.len()];
+    let u = &u[..y.len()];
+    Ok(put_accepted(out, m.landed, m.swaps, m.declined, t, u))
 }
 
-// The sheet of a text that is a request's, at the start of `out`, and zeros after it: answers how many
-// bytes it has. Where there is no such request, every byte of `out` is zero.
+// The sheet of a text that is a request's whose move is made, at the start of `out`, and zeros after it: answers
+// how many bytes it has. Where the text or the move is turned away, every byte of `out` is zero.
 fn sheet_of(out: &mut [u8], input: &[u8]) -> Result<usize, Refusal>
     requires { Text.sheet_room ≤ length out.old }
     ensures ok { IfOk result (λ n. Put (replicate (length out.old) 0) 0 (Text.sheet_of input.now) out.new n) }
@@ -129,7 +123,7 @@ fn sheet_of(out: &mut [u8], input: &[u8]) -> Result<usize, Refusal>
     let mut u = [0; WORD_ROOM];
     let found = request_in(out, &mut t, &mut u, input);
     out.fill(0);
-    Ok(run(out, &found?))
+    run(out, &found?)
 }
 
 // The sheet of a text at the start of `out`, and zeros after it: answers how many bytes it has. Where

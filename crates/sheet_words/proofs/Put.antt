@@ -1,12 +1,11 @@
 -- One list after another is put where both are, one after the other. Assumes nothing.
-use mathlib.Core.Path.{◌≡◌, refl, sym, ap, ◌∙◌, subst}
-use mathlib.Core.List.{List, [], ◌∷◌, ◌++◌, append-nil, append_assoc}
-use Prim.Native.Nat.{ℕ, suc, ◌+◌, ◌≤◌, ◌<◌}
+use mathlib.Core.Path.{◌≡◌, sym, ap, ◌∙◌, subst}
+use mathlib.Core.List.{List, [], ◌++◌, append-nil, append_assoc}
+use Prim.Native.Nat.{ℕ, ◌+◌, ◌≤◌}
 use native.Mathlib.Nat.{add-zero, zero-add}
-use native.Mathlib.Numerals.{add-one}
 use native.Mathlib.Omega.{arith}
 use lib.ListN.{length, take, drop, set, length-append, take-append-drop}
-use lib.Seq.{length-take-le, take_at, drop_at, drop-drop, drop-set-lt, set_split, append_snoc}
+use lib.Seq.{length-take-le, take_at, drop_at, drop-drop, drop-set-lt}
 use Rattle.sheet_words.specs.Put.{Put}
 
 -- the same list by another name
@@ -18,10 +17,6 @@ pub put-none : (a : List ℕ) (p : ℕ) → Put a p [] a p
 put-none a p =
     let e : p + 0 ≡ p = add-zero p in
     (sym e, sym (rw (e, append-nil (take p a)) (take-append-drop p a)))
-
--- one element
-pub put_one : (a : List ℕ) (p x : ℕ) → p < length a → Put a p (x ∷ []) (set a p x) (p + 1)
-put_one a p x h = (refl, rw (add-one p, set_split a p x h) (sym (append_snoc (take p a) x (drop (suc p) a))))
 
 module _ (a b c x y : List ℕ) (p q r : ℕ) (f : Put a p x b q) (g : Put b q y c r) (h : q ≤ length a) where
   front : length (take p a ++ x) ≡ q

@@ -1,5 +1,6 @@
-// Printing, line by line, at the start of a buffer. What stands after what is printed stays.
-ghost use Rattle.std.specs.Prelude.{◌≡◌, ◌+◌, ◌*◌, ◌<◌, ◌≤◌, length};
+// Printing, line by line, at the start of a buffer. What stands after what is printed stays. Not by
+// `Display`: the library's contracts say what a `fmt` writes where it succeeds, and not that it does.
+ghost use Rattle.std.specs.Prelude.{ℕ, List, ◌≡◌, ◌+◌, ◌*◌, ◌<◌, ◌≤◌, length};
 ghost use Rattle.model.specs.Text as Text;
 ghost use Rattle.sheet_words.specs.Put.{Put};
 ghost use Rattle.sheet_words.specs.Page.{Puts};
@@ -37,14 +38,6 @@ impl Page<'_> {
         self.at = end;
     }
 
-    // A number in decimal.
-    fn number(&mut self, n: usize)
-        requires { self.old.at + 20 ≤ length self.old.out.now }
-        ensures { (self.new.at ≤ self.old.at + 20) × Puts self.old (Text.decimal n) self.new }
-    {
-        self.put(itoa::Buffer::new().format(n).as_bytes());
-    }
-
     // A word.
     fn word(&mut self, w: u64)
         requires { self.old.at + 16 ≤ length self.old.out.now }
@@ -70,35 +63,51 @@ impl Page<'_> {
         }
     }
 
-    // Words, with a space between.
-    fn words(&mut self, words: &[u64])
-        requires { self.old.at + 17 * length words.now ≤ length self.old.out.now }
-        ensures { (self.new.at ≤ self.old.at + 17 * length words.now) × Puts self.old (Text.words words.now) self.new }
+    // A line: its name, and what it says.
+    fn line<T: Says>(&mut self, name: &[u8], value: T)
+        requires { (length name.now ≤ 9) × (self.old.at + 10 + T.room value ≤ length self.old.out.now) }
+        ensures { (self.new.at ≤ self.old.at + 10 + T.room value) × Puts self.old (Text.line name.now (T.text value)) self.new }
     {
-        if let [first, others @ ..] = words {
-            self.word(*first);
-            self.spaced(others);
+        self.put(name);
+        value.print(self);
+        self.put(b"\n");
+    }
+}
+
+// What a line may say.
+trait Says {
+    ghost text: { Self → List ℕ };
+
+    // So many bytes are enough for it.
+    ghost room: { Self → ℕ };
+
+    fn print(self, page: &mut Page)
+        requires { page.old.at + room self ≤ length page.old.out.now }
+        ensures { (page.new.at ≤ page.old.at + room self) × Puts page.old (text self) page.new };
+}
+
+// A number, in decimal.
+impl Says for usize {
+    ghost text = { Text.decimal };
+
+    ghost room = { λ n. 20 };
+
+    fn print(self, page: &mut Page) {
+        page.put(itoa::Buffer::new().format(self).as_bytes());
+    }
+}
+
+// Words, with a space between.
+impl Says for &[u64] {
+    ghost text = { λ w. Text.words w.now };
+
+    ghost room = { λ w. 17 * length w.now };
+
+    fn print(self, page: &mut Page) {
+        if let [first, others @ ..] = self {
+            page.word(*first);
+            page.spaced(others);
         }
-    }
-
-    // The line of a number.
-    fn number_line(&mut self, name: &[u8], n: usize)
-        requires { (length name.now ≤ 9) × (self.old.at + 30 ≤ length self.old.out.now) }
-        ensures { (self.new.at ≤ self.old.at + 30) × Puts self.old (Text.line name.now (Text.decimal n)) self.new }
-    {
-        self.put(name);
-        self.number(n);
-        self.put(b"\n");
-    }
-
-    // The line of a form's or a factor's words.
-    fn words_line(&mut self, name: &[u8], words: &[u64])
-        requires { (length name.now ≤ 9) × (self.old.at + 10 + 17 * length words.now ≤ length self.old.out.now) }
-        ensures { (self.new.at ≤ self.old.at + 10 + 17 * length words.now) × Puts self.old (Text.line name.now (Text.words words.now)) self.new }
-    {
-        self.put(name);
-        self.words(words);
-        self.put(b"\n");
     }
 }
 
@@ -108,7 +117,7 @@ pub fn put_answer(out: &mut [u8], answer: usize) -> usize
     ensures { (result ≤ length out.new) × Put out.old 0 (Text.answer_line answer) out.new result }
 {
     let mut page = Page { out, at: 0 };
-    page.number_line(b"answer=", answer);
+    page.line(b"answer=", answer);
     page.at
 }
 
@@ -118,11 +127,11 @@ pub fn put_request(out: &mut [u8], r: &Request) -> usize
     ensures { (result ≤ length out.new) × Put out.old 0 (Text.text_of (request r.now)) out.new result }
 {
     let mut page = Page { out, at: 0 };
-    page.number_line(b"n=", r.n);
-    page.number_line(b"from=", r.from);
-    page.number_line(b"to=", r.to);
-    page.words_line(b"t=", r.form);
-    page.words_line(b"u=", r.factor);
+    page.line(b"n=", r.n);
+    page.line(b"from=", r.from);
+    page.line(b"to=", r.to);
+    page.line(b"t=", r.form);
+    page.line(b"u=", r.factor);
     page.at
 }
 
@@ -139,11 +148,11 @@ pub fn put_accepted(
     ensures { (result ≤ length out.new) × Put out.old 0 (Text.accepted landed swaps declined t.now u.now) out.new result }
 {
     let mut page = Page { out, at: 0 };
-    page.number_line(b"answer=", 0);
-    page.number_line(b"landed=", landed);
-    page.number_line(b"swaps=", swaps);
-    page.number_line(b"declined=", declined);
-    page.words_line(b"t=", t);
-    page.words_line(b"u=", u);
+    page.line(b"answer=", 0);
+    page.line(b"landed=", landed);
+    page.line(b"swaps=", swaps);
+    page.line(b"declined=", declined);
+    page.line(b"t=", t);
+    page.line(b"u=", u);
     page.at
 }

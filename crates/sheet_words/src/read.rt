@@ -1,5 +1,6 @@
 // Reading: numbers and words from places of a text, whatever stands there. `sheet` prints what was
-// read and compares, so that nothing here has to refuse.
+// read and compares, so that nothing here has to refuse. A place is a number beside the text, and no
+// part of it cut off: it may lie past the text's end.
 ghost use Rattle.std.specs.Prelude.{◌≡◌, ◌≤◌, ◌<◌, ◌+◌, length};
 ghost use Rattle.model.specs.Text as Text;
 ghost use Rattle.sheet_words.specs.Put.{Put};

@@ -46,6 +46,7 @@ pub fn dot2x1(lhs0: Strided, lhs1: Strided, rhs: Strided) -> (f64, f64)
 }
 
 // Two rows of lhs with two of rhs, each from +0, left to right: the two of lhs with rhs0, then with rhs1.
+// In one loop, as four inner_prods take a third longer for all vectors of 64 rows in 2-blocks.
 #[tactic(auto, using(crate::proofs::Sums::all, crate::proofs::Sums::next, crate::proofs::Sums::done))]
 pub fn dot2x2(lhs0: Strided, lhs1: Strided, rhs0: Strided, rhs1: Strided) -> (f64, f64, f64, f64)
     requires { (lhs1.count ≡ lhs0.count) × (rhs0.count ≡ lhs0.count) × (rhs1.count ≡ lhs0.count) }

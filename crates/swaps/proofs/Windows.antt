@@ -42,34 +42,34 @@ module _ {X : Type 0} {n : ℕ} (f : ℕ → X) (d : X) (i : ℕ) (xs : List X) 
 
 pub window_3 : (ld : ℕ) (t : List Float) (p q r : ℕ) → columns3 (window_of 3 ld t (p ∷ q ∷ r ∷ [])) ≡ Stopping.window_of ld t p q r
 unfolding Stopping.window_of Stopping.triple_in
-window_3 ld t p q r = refl
+window_3 ld t p q r = refl {a = Stopping.window_of ld t p q r}
 
 window_4 : (ld : ℕ) (t : List Float) (j : ℕ) → columns4 (window_of 4 ld t (rows4 j)) ≡ Swaps.window_at ld t j
 unfolding Swaps.window_at Swaps.window_column
-window_4 ld t j = refl
+window_4 ld t j = refl {a = Swaps.window_at ld t j}
 
 pub window_at : (ld : ℕ) (t : List Float) (j : ℕ) {rows : List ℕ} {w : List (List Float)} → rows ≡ rows4 j → w ≡ window_of 4 ld t rows → columns4 w ≡ Swaps.window_at ld t j
 window_at ld t j a b = ap columns4 (b ∙ ap (window_of 4 ld t) a) ∙ window_4 ld t j
 
 pub transposed_3 : (w : List (List Float)) → columns3 (transposed 3 w) ≡ Stopping.transposed3 (columns3 w)
 unfolding Stopping.transposed3
-transposed_3 w = refl
+transposed_3 w = refl {a = Stopping.transposed3 (columns3 w)}
 
 pub tried_3 : (v : Reflect3) (w : List (List Float)) → columns3 (tried 3 (reflected3 v) w) ≡ Stopping.tried_window3 binary64 v (columns3 w)
 unfolding Stopping.tried_window3 Stopping.transposed3 Stopping.reflected_columns3
-tried_3 v w = refl
+tried_3 v w = refl {a = Stopping.tried_window3 binary64 v (columns3 w)}
 
 pub tried_4 : (v : Reflect4) (w : List (List Float)) → columns4 (tried 4 (reflected4 v) w) ≡ Swaps.tried_window binary64 v (columns4 w)
 unfolding Swaps.tried_window Swaps.transposed Swaps.reflected_columns
-tried_4 v w = refl
+tried_4 v w = refl {a = Swaps.tried_window binary64 v (columns4 w)}
 
 pub threshold_3 : (w : List (List Float)) → threshold 3 w ≡ Stopping.threshold3 binary64 (columns3 w)
 unfolding Stopping.threshold3 Stopping.dnorm_of3 Stopping.largest_of3
-threshold_3 w = refl
+threshold_3 w = refl {a = Stopping.threshold3 binary64 (columns3 w)}
 
 pub threshold_4 : (w : List (List Float)) → threshold 4 w ≡ Swaps.threshold binary64 (columns4 w)
 unfolding Swaps.threshold Swaps.dnorm_of Swaps.largest_of
-threshold_4 w = refl
+threshold_4 w = refl {a = Swaps.threshold binary64 (columns4 w)}
 
 -- ---- pairs of reflections of three, and of four
 
@@ -82,13 +82,13 @@ unfolding Swaps.reflectors3 reflect_triple make_householder_in_place tail_fits s
 pair_3 r a b x y h =
     let e : a ≡ each 3 (λ (i : ℕ). get_or a i nan) = fill_by_all (λ (i : ℕ). get_or a i nan) a 3 nan x (λ k l. refl) in
     let d : b ≡ each 3 (λ (i : ℕ). get_or b i nan) = fill_by_all (λ (i : ℕ). get_or b i nan) b 3 nan y (λ k l. refl) in
-    rw (h.second.0, h.second.1, h.first.0, h.first.1, e, d) refl
+    rw (h.second.0, h.second.1, h.first.0, h.first.1, e, d) (refl {a = Swaps.reflectors3 binary64 (triple (each 3 (λ (i : ℕ). get_or a i nan))) (triple (each 3 (λ (i : ℕ). get_or b i nan)))})
 
 pub pair_4 : (r : Reflectors 3 2) (s : Solution)
     → IsReflectors 3 2 4 (num s.x 0 ∷ num s.x 1 ∷ neg s.scale ∷ zero_of binary64 ∷ []) (num s.x 2 ∷ num s.x 3 ∷ zero_of binary64 ∷ neg s.scale ∷ []) r.first.tau r.first.v r.second.tau r.second.v
     → reflection4 r ≡ Swaps.reflectors4 binary64 (sylvester s)
 unfolding Swaps.reflectors4 reflect_quad make_householder_in_place tail_fits sub
-pair_4 r s h = rw (h.second.0, h.second.1, h.first.0, h.first.1) refl
+pair_4 r s h = rw (h.second.0, h.second.1, h.first.0, h.first.1) (refl {a = Swaps.reflectors4 binary64 (sylvester s)})
 
 -- ---- three rows exchanged
 

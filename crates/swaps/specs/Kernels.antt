@@ -1,6 +1,6 @@
 -- The operations of model's Columns on the numbers of one row as lists, and that along lines they are these operations. Assumes nothing.
 use Rattle.std.specs.Prelude.{◌≡◌, ℕ, zero, suc, ◌+◌, List, [], ◌∷◌, get_or, Float, refl}
-use Rattle.std.proofs.Common.{ap, ◌∙◌, sym, add_assoc, arith}
+use Rattle.std.proofs.Common.{add_assoc}
 use native.Mathlib.Nat.{add-zero}
 use Rattle.std.specs.Float.{binary64}
 use Rattle.model.specs.Form.{place, at}

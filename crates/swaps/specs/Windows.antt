@@ -1,5 +1,5 @@
 -- Windows of n rows and columns by value, column after column. Definitions only. Assumes nothing.
-use Rattle.std.specs.Prelude.{ℕ, zero, suc, ◌+◌, List, [], get_or, Float}
+use Rattle.std.specs.Prelude.{ℕ, zero, suc, List, [], get_or, Float}
 use Rattle.std.specs.Float.{binary64}
 use Rattle.std.specs.Float.Ieee.{mul, div}
 use Rattle.model.specs.Arith.{zero_of, ten_of, eps_of, min_positive_of, abs, fmax}

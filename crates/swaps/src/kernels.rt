@@ -1,4 +1,4 @@
-// Orthogonal operations on the N numbers of one row, or column, of a form: rotations of two, and pairs of reflections of three and four.
+// Orthogonal operations on the N numbers of one row or column: a rotation of two, pairs of reflections of three and of four.
 ghost use Rattle.std.specs.Prelude.{◌≡◌, ℕ, ◌+◌, ◌≤◌, ◌-◌, List, Float};
 ghost use Rattle.std.specs.Float.{binary64};
 ghost use Rattle.model.specs.Arith.{recip};
@@ -13,11 +13,12 @@ use arith::real::recip;
 use linalg::householder::make_householder;
 use linalg::jacobi::{JacobiRotation, apply_on_the_right};
 
+// An operation that mixes N lines, which are rows or columns of a form.
 pub trait Kernel<const N: usize>: Copy {
-    // What it makes of the numbers of one row.
+    // What it makes of N numbers, one of each line.
     ghost gives: { Self → List Float → List Float };
 
-    // The operation of the columns, or rows, of these numbers.
+    // The operation of model's Columns on the lines of these numbers.
     ghost operation: { Self → List ℕ → Operation };
 
     fn apply(self, x: [f64; N]) -> [f64; N]
@@ -51,7 +52,7 @@ pub struct Reflector<const M: usize> {
 
 impl<const M: usize> Reflector<M> {
     // The reflection that takes the last M + 1 of N numbers to the first of these alone.
-    pub fn of<const N: usize>(x: [f64; N]) -> Self
+    fn of<const N: usize>(x: [f64; N]) -> Self
         requires { M + 1 ≤ N }
         ensures { (result.tau ≡ recip binary64 (reflection_of (N - (M + 1)) x.entry).tau) × (result.v ≡ (reflection_of (N - (M + 1)) x.entry).tail) }
     {
@@ -67,7 +68,7 @@ impl<const M: usize> Reflector<M> {
     }
 
     // The last M + 1 of N numbers reflected: each number less its part of the sum, times tau.
-    pub fn reflect<const N: usize>(&self, x: [f64; N]) -> [f64; N]
+    fn reflect<const N: usize>(&self, x: [f64; N]) -> [f64; N]
         requires { M + 1 ≤ N }
         ensures { result ≡ reflects_from M (N - (M + 1)) self.now.tau self.now.v x.entry }
     {
@@ -95,7 +96,7 @@ pub struct Reflectors<const A: usize, const B: usize> {
 
 impl<const A: usize, const B: usize> Reflectors<A, B> {
     // The two reflections of the columns a and b: of a, and then of what the first makes of b.
-    pub fn of<const N: usize>(a: [f64; N], b: [f64; N]) -> Self
+    pub(crate) fn of<const N: usize>(a: [f64; N], b: [f64; N]) -> Self
         requires { (A + 1 ≤ N) × (B + 1 ≤ N) }
         ensures { IsReflectors A B N a.entry b.entry result.first.tau result.first.v result.second.tau result.second.v }
     {

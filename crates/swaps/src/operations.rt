@@ -1,8 +1,7 @@
 // Operations on rows and columns of a form, and on columns of a factor.
-ghost use Rattle.std.specs.Prelude.{◌≡◌, ℕ, ◌+◌, ◌-◌, ◌*◌, ◌<◌, ◌≤◌, length, get_or};
+ghost use Rattle.std.specs.Prelude.{◌≡◌, ℕ, ◌-◌, ◌≤◌, length, get_or};
 ghost use Rattle.std.specs.Float.{binary64};
 ghost use Rattle.model.specs.Columns as Columns;
-ghost use Rattle.model.specs.Form.{place};
 ghost use Rattle.model.specs.Exchange.{factor_rows};
 ghost use Rattle.form.specs.Shaped.{Holds, Beside};
 ghost use Rattle.swaps.specs.Lines.{Inside, change_at};
@@ -60,6 +59,7 @@ fn on_columns<const N: usize, K: Kernel<N>>(
 }
 
 // The operation on rows from column j on, and then on columns in the rows above row i.
+#[tactic(auto, unfolding(model::specs::Columns::on_form))]
 pub fn on_form<const N: usize, K: Kernel<N>>(
     s: Shape,
     t: &mut [f64],

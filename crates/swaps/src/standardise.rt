@@ -12,6 +12,7 @@ use linalg::jacobi::JacobiRotation;
 use schur22::lahqr_schur22::{Block, lahqr_schur22};
 
 // The standard form of the block in rows j and j + 1.
+#[tactic(auto, unfolding(model::specs::Swaps::block_at))]
 pub fn standard_block(s: Shape, t: &[f64], j: usize) -> Block
     requires { Holds s t.now × (j + 2 ≤ s.n) }
     ensures { block result ≡ Swaps.block_at binary64 s.ld t.now j }
@@ -24,6 +25,7 @@ pub fn standard_block(s: Shape, t: &[f64], j: usize) -> Block
 }
 
 // The block b put in rows j and j + 1, and what lies right of and above it rotated, and the factor's columns.
+#[tactic(auto, unfolding(model::specs::Columns::on_factor))]
 pub fn standardise_by(s: Shape, t: &mut [f64], u: &mut [f64], j: usize, b: Block)
     requires { Holds s t.old × Beside s u.old × (j + 2 ≤ s.n) }
     ensures { Done s.ld s.n u.old t.new u.new (Swaps.standardise_by binary64 s.ld s.n j (block b) t.old) }
@@ -38,6 +40,7 @@ pub fn standardise_by(s: Shape, t: &mut [f64], u: &mut [f64], j: usize, b: Block
 }
 
 // The block in rows j and j + 1 standardised.
+#[tactic(auto, unfolding(model::specs::Swaps::standardise))]
 pub fn standardise(s: Shape, t: &mut [f64], u: &mut [f64], j: usize)
     requires { Holds s t.old × Beside s u.old × (j + 2 ≤ s.n) }
     ensures { Done s.ld s.n u.old t.new u.new (Swaps.standardise binary64 s.ld s.n j t.old) }

@@ -12,6 +12,7 @@ use form::shape::Shape;
 use linalg::jacobi::{JacobiRotation, adjoint, rotg};
 
 // The rotation that exchanges rows j and j + 1.
+#[tactic(auto, unfolding(model::specs::Swaps::rotation11))]
 fn rotation_11(s: Shape, t: &[f64], j: usize) -> JacobiRotation
     requires { Holds s t.now × (j + 2 ≤ s.n) }
     ensures { rotation result ≡ Swaps.rotation11 binary64 s.ld t.now j }
@@ -35,6 +36,7 @@ fn form_11(s: Shape, t: &mut [f64], j: usize, rot: JacobiRotation)
 }
 
 // Rows j and j + 1 exchanged.
+#[tactic(auto, unfolding(model::specs::Swaps::swap11, model::specs::Columns::on_factor))]
 pub fn schur_swap_11(s: Shape, t: &mut [f64], u: &mut [f64], j: usize)
     requires { Holds s t.old × Beside s u.old × (j + 2 ≤ s.n) }
     ensures { Done s.ld s.n u.old t.new u.new (Swaps.swap11 binary64 s.ld s.n j t.old) }

@@ -1,5 +1,5 @@
 // A 2-block against a 2-block, tried on a copy of the window first.
-ghost use Rattle.std.specs.Prelude.{◌≡◌, Bool, cond, ◌+◌, ◌≤◌};
+ghost use Rattle.std.specs.Prelude.{◌≡◌, cond, ◌+◌, ◌≤◌};
 ghost use Rattle.std.specs.Float.{binary64};
 ghost use Rattle.model.specs.Swaps as Swaps;
 ghost use Rattle.sylvester.specs.View.{sylvester};
@@ -16,6 +16,7 @@ use form::shape::Shape;
 use sylvester::lasy2::{Solution, lasy2};
 
 // The largest magnitude of the four lower-left numbers.
+#[tactic(auto, unfolding(model::specs::Swaps::lower_left))]
 fn lower_left(w: Window<4>) -> f64
     ensures { result ≡ Swaps.lower_left (window4 w) }
 {
@@ -24,6 +25,7 @@ fn lower_left(w: Window<4>) -> f64
 }
 
 // The solution of the window's Sylvester equation.
+#[tactic(auto, unfolding(model::specs::Swaps::solution_of))]
 fn solution_of(w: Window<4>) -> Solution
     ensures { sylvester result ≡ Swaps.solution_of binary64 (window4 w) }
 {

@@ -1,5 +1,5 @@
 // N rows and columns of a form by value, tried before anything is written.
-ghost use Rattle.std.specs.Prelude.{◌≡◌, length};
+ghost use Rattle.std.specs.Prelude.{◌≡◌};
 ghost use Rattle.swaps.specs.Lines.{Inside};
 ghost use Rattle.swaps.specs.Windows.{window_of, transposed, changed, tried, largest, threshold};
 ghost use Rattle.form.specs.Shaped.{Holds};
@@ -32,7 +32,7 @@ impl<const N: usize> Window<N> {
     }
 
     // The window with rows for columns.
-    pub fn transposed(self) -> Self
+    pub(crate) fn transposed(self) -> Self
         ensures { result.columns ≡ transposed N self.entry.columns }
     {
         let mut columns = [[0.0; N]; N];

@@ -11,6 +11,7 @@ use schur22::lahqr_schur22::Block;
 use swaps::standardise::{standard_block, standardise_by};
 
 // A block whose b is zero and whose c is not, turned over so that c is.
+#[tactic(auto, unfolding(model::specs::Stopping::exchanged_b))]
 fn exchanged_b(x: Block) -> Block
     ensures { block result ≡ Stopping.exchanged_b binary64 (block x) }
 {

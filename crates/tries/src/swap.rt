@@ -1,7 +1,5 @@
 // A single row against a 2-block, and a 2-block against a single row, tried on the window first.
-ghost use Rattle.std.specs.Prelude.{◌≡◌, Bool, cond, ◌+◌, ◌≤◌};
-ghost use Rattle.std.specs.Float.{binary64};
-ghost use Rattle.model.specs.Stopping as Stopping;
+ghost use Rattle.std.specs.Prelude.{◌≡◌, ◌+◌, ◌≤◌};
 ghost use Rattle.form.specs.Shaped.{Holds, Beside};
 ghost use Rattle.swaps.specs.Done.{Done};
 ghost use Rattle.swaps.specs.View.{window3};

@@ -1,5 +1,6 @@
 // The values of a form's blocks, by one walk for both readings of a 2-block.
-// The real and the imaginary parts stay two buffers, as C lends them.
+// The real and the imaginary parts stay two buffers, as C lends them; no struct holds them with their lengths,
+// as a ghost field does not speak of what a &mut points at.
 ghost use Rattle.std.specs.Prelude.{◌≡◌, ◌+◌, ◌-◌, ◌<◌, ◌≤◌, length};
 ghost use Rattle.std.specs.Float.{binary64};
 ghost use Rattle.model.specs.Values as Spec;

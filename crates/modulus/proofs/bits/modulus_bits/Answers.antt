@@ -4,22 +4,14 @@ use Prim.Native.Nat.{ℕ, ◌+◌, ◌*◌}
 use mathlib.Core.Path.{◌≡◌}
 use native.Mathlib.Decide.{dec_lt}
 use native.Mathlib.Omega.{arith}
-use Rattle.modulus.proofs.Pattern.{IsModulus, with_zero, no_more, larger, small-order, subnormal, few, normal, overflows}
+use Rattle.modulus.proofs.Pattern.{IsModulus, with_zero, larger, subnormal, few, normal, overflows}
 use Rattle.modulus.proofs.bits.modulus_bits.Goals as goal
 
 pub returns-then-b-eq0 : goal.returns-then-b-eq0
 returns-then-b-eq0 c = let a = c.args.a in subst (λ (z : ℕ). IsModulus a z a) (sym c.if-b-eq0.true) (with_zero a c.requires.1)
 
-pub overflow_sub-d : goal.overflow_sub-d
-overflow_sub-d c = no_more c.significand-x.ensures c.significand-y.ensures c.requires.0
-
 pub returns-then-d-ge27 : goal.returns-then-d-ge27
 returns-then-d-ge27 c = let p = c.requires in larger c.significand-x.ensures c.significand-y.ensures p.0 p.1 c.if-d-ge27.true
-
-pub small-requires : goal.small-requires
-small-requires c =
-    let p = c.significand-x.ensures in
-    (p.some, c.if-x-lt-HIDDEN.true, small-order p c.significand-y.ensures c.requires.0 c.if-x-lt-HIDDEN.true)
 
 pub returns-then-x-lt-HIDDEN : goal.returns-then-x-lt-HIDDEN
 returns-then-x-lt-HIDDEN c =

@@ -10,7 +10,6 @@ use Rattle.laws.specs.Cut.{NearestHalf}
 use Rattle.laws.proofs.Cut.{scaled_digits}
 use Rattle.digits.specs.Digits.{Shift}
 use Rattle.modulus.specs.Modulus.{wide, four_sums, Sum, Fitted}
-use Rattle.modulus.proofs.Fit.{sum_fits}
 use Rattle.modulus.proofs.bits.small.Goals as goal
 
 module _ {x y s : ℕ} (pre : (0 < x) × (x < 2 ^ 52) × (y ≤ x)) (m : Shift x s) where
@@ -67,27 +66,6 @@ module _ {x y s : ℕ} (pre : (0 < x) × (x < 2 ^ 52) × (y ≤ x)) (m : Shift x
     nearest {c} q =
         let e = scaled power (s - power) (omega (arith, moves, f.once)) f.once f.is f.left in
         scaled_digits binary64 (four_sums x y 0 0) (s - power) c (rw (e.0, e.1) at q) few
-
-pub overflow_mul-x : goal.overflow_mul-x
-overflow_mul-x c = omega (arith, x-high c.requires c.shift_of-s.ensures)
-
-pub overflow_mul-y : goal.overflow_mul-y
-overflow_mul-y c = omega (arith, y-high c.requires c.shift_of-s.ensures)
-
-pub sum_of_squares-requires : goal.sum_of_squares-requires
-sum_of_squares-requires c = (omega (arith, x-high c.requires c.shift_of-s.ensures), omega (arith, y-high c.requires c.shift_of-s.ensures), omega arith)
-
-pub fitted-power-requires : goal.fitted-power-requires
-fitted-power-requires c =
-    let p = c.requires in
-    let m = c.shift_of-s.ensures in
-    sum_fits (x-low p m) (x-high p m) (y-high p m) (omega arith) c.sum_of_squares.ensures
-
-pub overflow_sub-s : goal.overflow_sub-s
-overflow_sub-s c = omega (arith, moves c.requires c.shift_of-s.ensures, c.fitted-power.ensures.once)
-
-pub stepped-requires : goal.stepped-requires
-stepped-requires c = omega (arith, c.shift_of-s.ensures.most)
 
 pub returns : goal.returns
 returns c = nearest c.requires c.shift_of-s.ensures c.sum_of_squares.ensures c.fitted-power.ensures c.stepped.ensures

@@ -55,17 +55,8 @@ module _ {x y d ah al bh bl high over low rest : ℕ} (l : Limbs x y d ah al bh 
   is_sum : Sum x y d (ah + high + (al + low + over * 2 ^ (54 - d * 2) % 2 ^ 64) / 2 ^ 54) ((al + low + over * 2 ^ (54 - d * 2) % 2 ^ 64) % 2 ^ 54) rest
   is_sum = record { is = rw l.quotient (omega (arith, plain, l.a.is)); short = omega arith; left = l.left }
 
-pub overflow_add-sum : goal.overflow_add-sum
-overflow_add-sum c = let k = limbs c.requires c.square-a.ensures c.square-b.ensures c.part-high.ensures c.part-low.ensures in omega (arith, k.low-most, k.a.short)
-
 pub overflow_add-sum-2 : goal.overflow_add-sum-2
 overflow_add-sum-2 c = omega (arith, sum_most (limbs c.requires c.square-a.ensures c.square-b.ensures c.part-high.ensures c.part-low.ensures))
-
-pub overflow_add-result : goal.overflow_add-result
-overflow_add-result c = let k = limbs c.requires c.square-a.ensures c.square-b.ensures c.part-high.ensures c.part-low.ensures in omega (arith, k.ah_most, k.high-most)
-
-pub overflow_add-result-2 : goal.overflow_add-result-2
-overflow_add-result-2 c = omega (arith, top_most (limbs c.requires c.square-a.ensures c.square-b.ensures c.part-high.ensures c.part-low.ensures))
 
 pub returns : goal.returns
 returns c = is_sum (limbs c.requires c.square-a.ensures c.square-b.ensures c.part-high.ensures c.part-low.ensures)

@@ -1,5 +1,5 @@
 -- `replay_calls::calls::make_householder_in_place` meets its contract. Assumes nothing.
-use mathlib.Core.Path.{sym}
+use mathlib.Core.Path.{sym, ◌∙◌}
 use mathlib.Core.Bool.{and-false}
 use native.Mathlib.Omega.{arith}
 use Prim.Native.Nat.{◌+◌, ◌*◌}
@@ -41,17 +41,17 @@ slice_bounds-make_householder_in_place-end c =
 
 pub slice_bounds-tail-end-3 : goal.slice_bounds-tail-end-3
 slice_bounds-tail-end-3 c =
-    rw (written_length c.room-tail.result c.floats_of.new.out c.places-p.result c.room-tail.ensures.1 c.places-p.ensures.3 c.floats_of.auto.out _ c.places-p.ensures.2 c.make_householder_in_place-r.new.tail c.make_householder_in_place-r.auto.tail) c.places-p.ensures.3
+    rw (written_length c.room-tail.result c.floats_of.new.out c.places-p.result c.room-tail.ensures.1 c.places-p.ensures.3 c.floats_of.auto.out _ c.places-p.ensures.2 c.make_householder_in_place-made.new.tail c.make_householder_in_place-made.auto.tail) c.places-p.ensures.3
 
 pub slice_bounds-are_words-end : goal.slice_bounds-are_words-end
 slice_bounds-are_words-end c =
-    sym (length-take-le c.places-p.result _ (omega (arith, c.places-p.ensures.3, written_length c.room-tail.result c.floats_of.new.out c.places-p.result c.room-tail.ensures.1 c.places-p.ensures.3 c.floats_of.auto.out _ c.places-p.ensures.2 c.make_householder_in_place-r.new.tail c.make_householder_in_place-r.auto.tail)))
+    sym (length-take-le c.places-p.result _ (omega (arith, c.places-p.ensures.3, written_length c.room-tail.result c.floats_of.new.out c.places-p.result c.room-tail.ensures.1 c.places-p.ensures.3 c.floats_of.auto.out _ c.places-p.ensures.2 c.make_householder_in_place-made.new.tail c.make_householder_in_place-made.auto.tail)))
 
 pub returns : goal.returns
 returns c =
     let room = c.room-tail.result in
     let given = c.floats_of.new.out in
-    let tail = c.make_householder_in_place-r.new.tail in
+    let tail = c.make_householder_in_place-made.new.tail in
     let places = c.places-p.result in
     let filled = c.room-tail.ensures.1 in
     let most = c.places-p.ensures.3 in
@@ -67,10 +67,10 @@ returns c =
       c.is_word-inv.ensures,
       c.is_word-tau.ensures,
       c.is_word-head.ensures,
-      places_after room given places filled most kept _ fits tail c.make_householder_in_place-r.auto.tail,
+      places_after room given places filled most kept _ fits tail c.make_householder_in_place-made.auto.tail,
       expected_words places,
       ← given_words _ places given c.floats_of.ensures,
       ← c.float_of.ensures,
       ← tail_given room given places filled most kept _ fits,
-      ← c.make_householder_in_place-r.ensures,
+      ← (c.answered-number.ensures tail ∙ c.make_householder_in_place-made.ensures),
     )

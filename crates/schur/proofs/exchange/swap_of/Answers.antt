@@ -3,7 +3,7 @@ use mathlib.Core.Path.{refl, sym}
 use Prim.Native.Nat.{◌≤◌}
 use mathlib.Core.Bool.{Bool, true, false, cond}
 use lib.Dec.{lit≤}
-use borrow.Author.Tests.{eq-eqb, ne_eqb}
+use borrow.Author.Tests.{ne_eqb}
 use Rattle.laws_exchange.proofs.Counts.{pair-counts}
 use Rattle.model.specs.Swaps.{declines_in, swap_of, swap11, swap12, swap21}
 use Rattle.schur.proofs.exchange.swap_of.Goals as goal

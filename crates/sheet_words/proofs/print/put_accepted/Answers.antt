@@ -8,6 +8,6 @@ pub returns : goal.returns
 unfolding accepted
 returns c =
     let p =
-    puts_then (puts_then (puts_then (puts_then (puts_then c.number_line.ensures.1 c.number_line-2.ensures.1) c.number_line-3.ensures.1)
-    c.number_line-4.ensures.1) c.words_line.ensures.1) c.words_line-2.ensures.1 in
+    puts_then (puts_then (puts_then (puts_then (puts_then c.line.ensures.1 c.line-2.ensures.1) c.line-3.ensures.1) c.line-4.ensures.1)
+    c.line-5.ensures.1) c.line-6.ensures.1 in
     search (rules, p)

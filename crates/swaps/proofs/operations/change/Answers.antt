@@ -1,3 +1,4 @@
+-- `swaps::operations::change` meets its contract. Assumes nothing.
 use mathlib.Core.Path.{◌≡◌, ap, ◌∙◌}
 use mathlib.Core.List.{List}
 use lib.ListN.{get_or, length-set}

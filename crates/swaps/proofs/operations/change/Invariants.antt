@@ -1,3 +1,4 @@
+-- `swaps::operations::change` meets its contract. Assumes nothing.
 use Rattle.std.proofs.Common.{◌≡◌, ℕ, ◌<◌, length, get_or}
 use Rattle.model.specs.Form.{at}
 use Rattle.swaps.specs.Lines.{put_at}

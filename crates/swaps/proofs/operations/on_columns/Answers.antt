@@ -1,3 +1,4 @@
+-- `swaps::operations::on_columns` meets its contract. Assumes nothing.
 use mathlib.Core.Path.{◌≡◌, refl, sym, ap, ◌∙◌}
 use lib.ListN.{get_or}
 use Prim.Native.Nat.{ℕ}

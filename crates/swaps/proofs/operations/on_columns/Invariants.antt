@@ -1,4 +1,5 @@
-use Rattle.std.proofs.Common.{◌≡◌, ℕ, ◌-◌, ◌<◌, length, get_or}
+-- `swaps::operations::on_columns` meets its contract. Assumes nothing.
+use Rattle.std.proofs.Common.{◌≡◌, ℕ, ◌<◌, length, get_or}
 use Rattle.model.specs.Form.{place}
 use Rattle.swaps.specs.Lines.{change_run}
 use Rattle.swaps.proofs.operations.on_columns.Given as goal

@@ -1,4 +1,5 @@
-use mathlib.Core.Path.{sym, ◌∙◌}
+-- `swaps::operations::on_factor` meets its contract. Assumes nothing.
+use mathlib.Core.Path.{sym}
 use borrow.Author.Tests.{eq-eqb, ne_eqb}
 use Rattle.model.specs.Exchange.{factor_rows}
 use Rattle.swaps.specs.Lines.{change_run}

@@ -1,3 +1,4 @@
+-- `swaps::operations::on_rows` meets its contract. Assumes nothing.
 use Rattle.std.proofs.Common.{◌≡◌, ℕ, ◌-◌, ◌<◌, length, get_or}
 use Rattle.model.specs.Form.{place}
 use Rattle.swaps.specs.Lines.{change_run}

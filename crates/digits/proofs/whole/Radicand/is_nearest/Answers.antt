@@ -7,7 +7,6 @@ use native.Mathlib.Omega.{arith}
 use native.Mathlib.Decide.{dec_lt}
 use lib.Dec.{eqb}
 use borrow.Author.Tests.{eq-eqb, ne_eqb}
-use borrow.Author.Rules.{rules}
 use Rattle.std.specs.Option.{is_some}
 use Rattle.model.specs.Root.{root}
 use Rattle.digits.specs.Digits.{left_of}
@@ -29,14 +28,8 @@ halves k lo hi = record { most = omega arith; little = omega arith; parts = omeg
 
 module _ (d k s q : ℕ) (h : Halves k s q) where
   -- s * s, s * 2 * q and q * q within 64 bits
-  square : s * s ≤ 2 ^ 56
-  square = mul-le-mul h.most h.most
-
   product : s * q ≤ 2 ^ 55
   product = mul-le-mul h.most h.little
-
-  cross : s * 2 * q ≤ 2 ^ 56
-  cross = omega (arith, product)
 
   end : q * q ≤ 2 ^ 54
   end = mul-le-mul h.little h.little
@@ -99,15 +92,6 @@ module _ (d k s q : ℕ) (h : Halves k s q) where
           | no f ↦ rw (too_long m (q * q) (k * 8) (omega arith) (omega arith)) (sym (ne_eqb k ((root (d * 2 ^ 54) + 1) / 2) (λ n. f (pass_6 n))))
         ]
       ]
-
-pub overflow_mul-s : goal.overflow_mul-s
-overflow_mul-s c = let x = square 0 _ _ _ (halves c.args.k (search rules) (search rules)) in omega arith
-
-pub overflow_mul-s-3 : goal.overflow_mul-s-3
-overflow_mul-s-3 c = let x = cross 0 _ _ _ (halves c.args.k (search rules) (search rules)) in omega arith
-
-pub overflow_mul-q : goal.overflow_mul-q
-overflow_mul-q c = let x = end 0 _ _ _ (halves c.args.k (search rules) (search rules)) in omega arith
 
 pub returns-in_default : goal.returns-in_default
 returns-in_default c =

@@ -16,12 +16,6 @@ between i h e r p q u l =
     let y : e * 2 ^ 8 * (e * 2 ^ 8) * (i + 1) ≤ r * r * (i + 1) = mul-le-mul_right (i + 1) (mul-le-mul l l) in
     (omega (arith, p.0), omega (arith, q.1))
 
-pub overflow_mul-result-2 : goal.overflow_mul-result-2
-overflow_mul-result-2 c = let p = part (c.line_at-line.result % 2 ^ 24) (c.args.self.digits / 0x8000 % 2 ^ 32) (omega arith) in omega arith
-
-pub overflow_sub-result : goal.overflow_sub-result
-overflow_sub-result c = let p = part (c.line_at-line.result % 2 ^ 24) (c.args.self.digits / 0x8000 % 2 ^ 32) (omega arith) in omega (arith, c.line_at-line.ensures.falls)
-
 pub returns : goal.returns
 returns c =
     let line = c.line_at-line.result in

@@ -2,7 +2,7 @@
 -- square of the sum; and it goes down from an r whose square is above d. Assumes nothing.
 use mathlib.Core.Path.{◌≡◌}
 use Prim.Native.Nat.{ℕ, zero, suc, ◌+◌, ◌-◌, ◌*◌, ◌/◌, ◌≤◌, ◌<◌}
-use native.Mathlib.Nat.{mul-le-mul, lt-div-mul-add, div-lt_iff_lt-mul, div-le_self}
+use native.Mathlib.Nat.{mul-le-mul, lt-div-mul-add, div-lt_iff_lt-mul}
 use native.Mathlib.Decide.{dec_le}
 use native.Mathlib.Omega.{arith}
 use Rattle.laws.proofs.WholeRoot.{root_unique}
@@ -32,18 +32,6 @@ step-below d r p h = let k = (div-lt_iff_lt-mul p).1 h in omega arith
 some : (d r : ℕ) → d < r * r → 0 < r
 some d zero h = absurd (omega arith)
 some d (suc r) h = omega arith
-
-pub loop-r-init : goal.loop-r-init
-loop-r-init c = (omega arith, omega arith)
-
-pub overflow_mul-r : goal.overflow_mul-r
-overflow_mul-r c = let h = c.loop-r.invariant.1 in omega (arith, mul-le-mul h h)
-
-pub overflow_add-r : goal.overflow_add-r
-overflow_add-r c = omega (arith, div-le_self c.args.self.digits c.loop-r.r)
-
-pub loop-r-smaller : goal.loop-r-smaller
-loop-r-smaller c = let t = c.loop-r-test.true in step-below _ _ (some _ _ t) t
 
 pub loop-r-preserved : goal.loop-r-preserved
 loop-r-preserved c = let t = c.loop-r-test.true in let p = some _ _ t in (step-above _ _ p, omega (arith, step-below _ _ p t))

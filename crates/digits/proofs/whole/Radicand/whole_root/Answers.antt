@@ -87,9 +87,6 @@ overflow_mul-q-2 c = let p = parts c.args.self c.small_root-s.ensures in omega (
 pub overflow_mul-u-2 : goal.overflow_mul-u-2
 overflow_mul-u-2 c = let p = parts c.args.self c.small_root-s.ensures in omega arith
 
-pub overflow_sub-result : goal.overflow_sub-result
-overflow_sub-result c = let p = parts c.args.self c.small_root-s.ensures in omega arith
-
 pub returns-then-q-u : goal.returns-then-q-u
 returns-then-q-u c = kept _ _ _ _ (parts c.args.self c.small_root-s.ensures) c.if-q-u.true
 

@@ -3,10 +3,12 @@ use mathlib.Core.Path.{◌≡◌, ap, ◌∙◌}
 use Prim.Native.Nat.{ℕ, ◌+◌, ◌-◌, ◌*◌, ◌^◌, ◌≤◌, ◌<◌}
 use native.Mathlib.Omega.{arith}
 use native.Mathlib.Decide.{dec_lt}
-use mathlib.Core.Bool.{false, ◌&&◌}
+use mathlib.Core.Bool.{Bool, false, ◌&&◌}
 use lib.Dec.{ltb}
+use borrow.Author.Rules.{rules}
 use borrow.Author.Tests.{lt-ltb, le-ltb}
-use Rattle.std.proofs.Common.{None, Some}
+use Rattle.std.proofs.Common.{Option, None, Some}
+use Rattle.std.specs.Option.{MatchOption}
 use Rattle.digits.specs.Digits.{Left}
 use Rattle.digits.proofs.Left.{rest, gone}
 use Rattle.modulus.specs.Modulus.{wide, Square}
@@ -57,16 +59,18 @@ module _ {k th tl : ℕ} (some : 0 < k) (fits : k ≤ 2 ^ 54) (q : Square (k * 2
         | no a ↦ elim (dec_lt (d * 2 ^ 54 + l - tl) (k * 8)) [ yes b ↦ absurd (gone e (omega (arith, a)) b) | no b ↦ not_below (wide h l) (omega (arith, a, b, g.is, g.within)) ]
       ]
 
+  -- what is left in the low limb
+  low_tells : (h l d : ℕ) (o : Option ℕ) (r : Bool) → Left h th 16 (Some d) → Left (d * 2 ^ 54 + l) tl (k * 8) o → MatchOption o (r ≡ false) (λ u. r ≡ ltb 0 u) → r ≡ (ltb lower (wide h l) && ltb (wide h l) upper)
+  low_tells h l d None r a b e = e ∙ none_low h l d a b
+  low_tells h l d (Some u) r a b e =
+      let g = rest a in
+      let v = rest b in
+      e ∙ last (wide h l) u (omega (arith, g.is, g.within, v.is, v.within)) v.short
+
 pub returns-in_default : goal.returns-in_default
 returns-in_default c =
     none_high c.requires.0 c.requires.1 c.square-t.ensures _ _ c.args.self.whole.short c.in_default.ensures
 
-pub returns-in-None : goal.returns-in-None
-returns-in-None c =
-    none_low c.requires.0 c.requires.1 c.square-t.ensures _ _ _ c.in-Some.ensures c.in-None.ensures
-
-pub returns-in-Some-left : goal.returns-in-Some-left
-returns-in-Some-left c =
-    let d = rest c.in-Some.ensures in
-    let u = rest c.in-Some-left.ensures in
-    last c.requires.0 c.requires.1 c.square-t.ensures _ _ (omega (arith, d.is, d.within, u.is, u.within)) u.short
+pub returns : goal.returns
+returns c =
+    low_tells c.requires.0 c.requires.1 c.square-t.ensures _ _ _ _ _ c.in-Some.ensures c.left-2.ensures (search rules)

@@ -1,5 +1,5 @@
 -- `replay::line::Desk::shown` meets its contract, by what was found of its words. Assumes nothing.
-use Rattle.std.proofs.Common.{◌≡◌, ◌<◌, ◌≤◌, length, ◌∙◌, arith}
+use Rattle.std.proofs.Common.{◌≡◌, ◌∙◌, arith}
 use Rattle.replay.proofs.Replayed.{words_room, index_inside, without_words, without_index, without_call, as_shown}
 use Rattle.replay.proofs.line.Desk.shown.Goals as goal
 

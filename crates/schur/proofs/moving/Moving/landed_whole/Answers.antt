@@ -1,5 +1,5 @@
 -- `schur::moving::Moving::landed_whole` meets its contract. Assumes nothing.
-use mathlib.Core.Path.{◌≡◌, refl, sym, ◌∙◌}
+use mathlib.Core.Path.{◌≡◌, refl}
 use Rattle.std.proofs.Common.{rules}
 use Rattle.schur.specs.declared.moving.Block.TheVariants.{Two}
 use Rattle.schur.proofs.Ways.{lands, not_two}

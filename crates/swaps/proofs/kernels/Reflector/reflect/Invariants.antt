@@ -1,4 +1,5 @@
-use Rattle.std.proofs.Common.{◌≡◌, ◌+◌, length}
+-- `swaps::kernels::Reflector::reflect` meets its contract. Assumes nothing.
+use Rattle.std.proofs.Common.{◌≡◌}
 use Rattle.swaps.specs.Reflects.{product_of, less_of}
 use Rattle.swaps.proofs.kernels.Reflector.reflect.Given as goal
 

@@ -1,3 +1,4 @@
+-- `swaps::kernels::Reflectors32Kernel4::apply` meets its contract. Assumes nothing.
 use Rattle.std.proofs.Common.{rules}
 use Rattle.swaps.proofs.Twice.{twice4}
 use Rattle.swaps.proofs.kernels.Reflectors32Kernel4.apply.Goals as goal

@@ -2,7 +2,7 @@
 use mathlib.Core.List.{[]}
 use Prim.Native.Nat.{ℕ}
 use lib.ListN.{get_or}
-use Rattle.swaps.proofs.Windows.{one_filled, all_filled}
+use Rattle.swaps.proofs.Windows.{all_filled}
 use Rattle.swaps.proofs.window.Window.changed.Goals as goal
 
 pub returns : goal.returns

@@ -1,7 +1,6 @@
 -- `swaps::window::Window::of` meets its contract. Assumes nothing.
 use mathlib.Core.List.{[]}
 use Prim.Native.Nat.{ℕ}
-use native.Mathlib.Omega.{arith}
 use lib.ListN.{get_or}
 use lib.Ieee.{nan}
 use Rattle.model.specs.Form.{entry}

@@ -1,9 +1,9 @@
--- `sheet_words::print::Page::words` meets its contract: the first word, then the others, a space before each. Assumes nothing.
+-- `sheet_words::print::RefSliceU64Says::print` meets its contract: the first word, then the others, a space before each. Assumes nothing.
 use Rattle.std.proofs.Common.{◌≡◌, ℕ, List, [], ◌∷◌, ◌++◌, ◌-◌, ◌≤◌, ◌<◌, length, get_or, take, drop, refl, arith}
 use lib.Seq.{take_all}
 use Rattle.model.specs.Text.{word, spaced, words}
 use Rattle.sheet_words.proofs.Page.{as_text, puts_none, puts_then}
-use Rattle.sheet_words.proofs.print.Page.words.Goals as goal
+use Rattle.sheet_words.proofs.print.RefSliceU64Says.print.Goals as goal
 
 none : (w : List ℕ) → length w < 1 → [] ≡ words w
 unfolding words
@@ -29,4 +29,4 @@ returns-in_default c = (omega arith, as_text (none _ c.in_default.len_below) (pu
 pub returns-in-len1-up : goal.returns-in-len1-up
 returns-in-len1-up c =
     let l = c.in-len1-up.len_at_least in
-    (omega (arith, others c.args.words.now l), as_text (first _ l) (puts_then c.word.ensures.1 c.spaced.ensures.1))
+    (omega (arith, others c.args.self.now l), as_text (first _ l) (puts_then c.word.ensures.1 c.spaced.ensures.1))

@@ -1,7 +1,0 @@
--- `sheet_words::print::Page::number_line` meets its contract. Assumes nothing.
-use Rattle.std.proofs.Common.{arith}
-use Rattle.sheet_words.proofs.Page.{puts_then}
-use Rattle.sheet_words.proofs.print.Page.number_line.Goals as goal
-
-pub returns : goal.returns
-returns c = (omega arith, puts_then (puts_then c.put.ensures c.number.ensures.1) c.put-2.ensures)
