@@ -4,6 +4,7 @@ ghost use Rattle.std.specs.Prelude.{◌≡◌};
 ghost use Rattle.replay.specs.Table as Table;
 
 use replay_calls::{blocks, calls};
+use replay_forms::head::Stride;
 use replay_forms::{moves, vectors};
 use replay_text::name::Call;
 use replay_text::outcome::Outcome;
@@ -29,19 +30,19 @@ pub fn run(call: Call, w: &[u64]) -> Outcome
         Call::MakeHouseholderInPlace => calls::make_householder_in_place(w),
         Call::LahqrSchur22 => blocks::lahqr_schur22(w),
         Call::Lasy2 => blocks::lasy2(w),
-        Call::SchurSwap => moves::schur_swap(0, w),
-        Call::ReorderSchur => moves::reorder_schur(0, w),
-        Call::BlockValues => vectors::block_values(0, w),
-        Call::EvdFromRealSchur => vectors::evd_from_real_schur(0, w),
-        Call::Column => vectors::column(0, w),
-        Call::SchurSwapLd => moves::schur_swap(1, w),
-        Call::ReorderSchurLd => moves::reorder_schur(1, w),
-        Call::BlockValuesLd => vectors::block_values(1, w),
-        Call::EvdFromRealSchurLd => vectors::evd_from_real_schur(1, w),
-        Call::ColumnLd => vectors::column(1, w),
-        Call::StandardisedValues => vectors::standardised_values(0, w),
-        Call::StandardisedValuesLd => vectors::standardised_values(1, w),
-        Call::ReorderSchurStopping => moves::reorder_schur_stopping(0, w),
-        Call::ReorderSchurStoppingLd => moves::reorder_schur_stopping(1, w),
+        Call::SchurSwap => moves::schur_swap(Stride::OfRows, w),
+        Call::ReorderSchur => moves::reorder_schur(Stride::OfRows, w),
+        Call::BlockValues => vectors::block_values(Stride::OfRows, w),
+        Call::EvdFromRealSchur => vectors::evd_from_real_schur(Stride::OfRows, w),
+        Call::Column => vectors::column(Stride::OfRows, w),
+        Call::SchurSwapLd => moves::schur_swap(Stride::Given, w),
+        Call::ReorderSchurLd => moves::reorder_schur(Stride::Given, w),
+        Call::BlockValuesLd => vectors::block_values(Stride::Given, w),
+        Call::EvdFromRealSchurLd => vectors::evd_from_real_schur(Stride::Given, w),
+        Call::ColumnLd => vectors::column(Stride::Given, w),
+        Call::StandardisedValues => vectors::standardised_values(Stride::OfRows, w),
+        Call::StandardisedValuesLd => vectors::standardised_values(Stride::Given, w),
+        Call::ReorderSchurStopping => moves::reorder_schur_stopping(Stride::OfRows, w),
+        Call::ReorderSchurStoppingLd => moves::reorder_schur_stopping(Stride::Given, w),
     }
 }

@@ -1,2 +1,5 @@
-pub mod Fits
-pub mod Sides
+pub mod Parts
+pub mod TwoLine
+pub mod VectorLine
+pub mod ValueLine
+pub mod ColumnLine

@@ -1,20 +1,21 @@
 -- What a line of each call on forms shows, by the call's definition in model. Definitions only. Assumes nothing.
-use Rattle.std.specs.Prelude.{ℕ, ◌+◌, ◌*◌, Bool, true, false, ◌&&◌, cond, List, eqb, leb, length, get_or, take, drop, Float}
+use Rattle.std.specs.Prelude.{ℕ, ◌+◌, ◌*◌, Bool, ◌&&◌, cond, List, [], ◌∷◌, eqb, leb, length, get_or, take, drop, Float, Option, Some, None}
+use Rattle.std.specs.Cmp.Lexicographic.{pointwise}
 use Rattle.std.specs.Float.{binary64}
 use Rattle.model.specs.Move as Move
 use Rattle.model.specs.Stopping as Stopping
 use Rattle.model.specs.Exchange as Exchange
 use Rattle.model.specs.Vectors as Vectors
 use Rattle.model.specs.Values as Values
-use Rattle.values.specs.Reading.{reading}
 use Rattle.replay_text.specs.Float.{are_words}
 use Rattle.replay_text.specs.Shown.{judged, from}
 use Rattle.replay_text.specs.declared.outcome.Outcome.{Outcome}
-use Rattle.replay_forms.specs.declared.two.Call.{Call}
+use Rattle.replay_forms.specs.declared.head.Stride.{Stride}
 
--- word i is the number x
-abbrev pub is : List ℕ → ℕ → ℕ → Bool
-is w i x = eqb x (get_or w i 0)
+-- Where a line has no stride, n serves for it; with one word more, the stride stands after n.
+abbrev pub more : Stride → ℕ
+more Stride.OfRows = 0
+more Stride.Given = 1
 
 -- the k words from word i on are those of the numbers x
 abbrev pub are : List ℕ → ℕ → ℕ → List Float → Bool
@@ -24,112 +25,88 @@ are w i k x = are_words x (take k (drop i w))
 unfoldable pub fits : ℕ → ℕ → ℕ → ℕ → ℕ → Bool
 fits words rest once a b = leb once 8320 && leb a 8320 && leb b 8320 && eqb words (rest + once + 2 * (a + b))
 
--- Where a line has no stride, n serves for it; with one word more, the stride stands after n.
+-- a line that was read, and gives what is expected or not; one that is no line of the call
+abbrev pub outcome : Option Bool → Outcome
+outcome (Some same) = cond same Outcome.Same Outcome.Differs
+outcome None = Outcome.Malformed
 
--- the words from word i on are what every answer on a form and a factor ends with: swaps, declined, form and factor
-abbrev pub ends : List ℕ → ℕ → ℕ → ℕ → ℕ → List Float → ℕ → List Float → Bool
-ends w i swaps declined a form b factor = is w i swaps && is w (i + 1) declined && are w (i + 2) a form && are w (i + 2 + a) b factor
+-- what a call on a form and a factor answers: its numbers, and form and factor after it
+pub record Answered : Type 0 where
+  pub numbers : List ℕ
+  pub form : List Float
+  pub factor : List Float
 
--- the move of a line, with a form of a numbers and a factor of b
-abbrev pub move_in : ℕ → List ℕ → ℕ → ℕ → Move.Moved
-move_in more w a b = Move.move_call binary64 (get_or w (2 + more) 0) (get_or w 2 0) (from w (5 + more) a) (from w (5 + more + a) b) (get_or w (3 + more) 0) (get_or w (4 + more) 0)
+-- of the stride, n, the numbers that a line gives, form and factor
+abbrev pub Call : Type 0
+Call = ℕ → ℕ → List ℕ → List Float → List Float → Answered
 
--- it gives what is expected
-unfoldable pub same_move : ℕ → List ℕ → ℕ → ℕ → Bool
-same_move more w a b =
-    let r = move_in more w a b in
-    let e = 5 + more + a + b in
-    is w e r.answer && is w (e + 1) r.landed && ends w (e + 2) r.swaps r.declined a r.form b r.factor
+-- the numbers of an answer in the order of a line, with 1 for the mark
+abbrev pub of_move : Move.Moved → Answered
+of_move r = record { numbers = r.answer ∷ r.landed ∷ r.swaps ∷ r.declined ∷ []; form = r.form; factor = r.factor }
 
--- the stopping move, likewise, with 1 for the mark
-abbrev pub stopping_in : ℕ → List ℕ → ℕ → ℕ → Stopping.Stopped
-stopping_in more w a b =
-    Stopping.stopping_call binary64 (get_or w (2 + more) 0) (get_or w 2 0) (from w (5 + more) a) (from w (5 + more + a) b) (get_or w (3 + more) 0) (get_or w (4 + more) 0)
+abbrev pub of_stopping : Stopping.Stopped → Answered
+of_stopping r = record { numbers = r.answer ∷ cond r.stopped 1 0 ∷ r.here ∷ r.swaps ∷ r.declined ∷ []; form = r.form; factor = r.factor }
 
-unfoldable pub same_stopping : ℕ → List ℕ → ℕ → ℕ → Bool
-same_stopping more w a b =
-    let r = stopping_in more w a b in
-    let e = 5 + more + a + b in
-    is w e r.answer && is w (e + 1) (cond r.stopped 1 0) && is w (e + 2) r.here && ends w (e + 3) r.swaps r.declined a r.form b r.factor
+abbrev pub of_exchange : Exchange.Exchanged → Answered
+of_exchange r = record { numbers = r.answer ∷ r.swaps ∷ r.declined ∷ []; form = r.form; factor = r.factor }
 
--- an exchange
-abbrev pub exchange_in : ℕ → List ℕ → ℕ → ℕ → Exchange.Exchanged
-exchange_in more w a b =
-    Exchange.exchange_call binary64 (get_or w (2 + more) 0) (get_or w 2 0) (from w (6 + more) a) (from w (6 + more + a) b) (get_or w (3 + more) 0) (get_or w (4 + more) 0) (get_or w (5 + more) 0)
+-- the calls of from and to, and of j0, n1 and n2
+abbrev pub move : Call
+move ld n g t u = of_move (Move.move_call binary64 ld n t u (get_or g 0 0) (get_or g 1 0))
 
-unfoldable pub same_exchange : ℕ → List ℕ → ℕ → ℕ → Bool
-same_exchange more w a b =
-    let r = exchange_in more w a b in
-    let e = 6 + more + a + b in
-    is w e r.answer && ends w (e + 1) r.swaps r.declined a r.form b r.factor
+abbrev pub stopping : Call
+stopping ld n g t u = of_stopping (Stopping.stopping_call binary64 ld n t u (get_or g 0 0) (get_or g 1 0))
 
--- a form of a numbers and b lent for its vectors
-abbrev pub vectors_in : ℕ → List ℕ → ℕ → ℕ → Vectors.Vectors
-vectors_in more w a b = Vectors.evd_from_real_schur binary64 (get_or w (2 + more) 0) (get_or w 2 0) (from w (3 + more) a) (from w (3 + more + a) b)
+abbrev pub exchange : Call
+exchange ld n g t u = of_exchange (Exchange.exchange_call binary64 ld n t u (get_or g 0 0) (get_or g 1 0) (get_or g 2 0))
 
-unfoldable pub same_vectors : ℕ → List ℕ → ℕ → ℕ → Bool
-same_vectors more w a b =
-    let r = vectors_in more w a b in
-    let e = 3 + more + a + b in
-    is w e r.answer && are w (e + 1) b r.v
-
--- so many words are a line of the call, with a form of a numbers and a buffer of b
-unfoldable pub fits_two : ℕ → Call → ℕ → ℕ → ℕ → Bool
-unfolding fits
-fits_two more Call.Move words a b = fits words (9 + more) 0 a b
-fits_two more Call.Stopping words a b = fits words (10 + more) 0 a b
-fits_two more Call.Exchange words a b = fits words (9 + more) 0 a b
-fits_two more Call.Vectors words a b = fits words (4 + more) a b 0
-
--- whether a call gives what is expected, and the two buffers after it
-pub record Two : Type 0 where
-  pub same : Bool
-  pub first : List Float
-  pub second : List Float
-
-unfoldable pub two : ℕ → Call → List ℕ → ℕ → ℕ → Two
-unfolding same_move same_stopping same_exchange same_vectors
-two more Call.Move w a b = record { same = same_move more w a b; first = (move_in more w a b).form; second = (move_in more w a b).factor }
-two more Call.Stopping w a b = record { same = same_stopping more w a b; first = (stopping_in more w a b).form; second = (stopping_in more w a b).factor }
-two more Call.Exchange w a b = record { same = same_exchange more w a b; first = (exchange_in more w a b).form; second = (exchange_in more w a b).factor }
-two more Call.Vectors w a b = record { same = same_vectors more w a b; first = from w (3 + more) a; second = (vectors_in more w a b).v }
+-- the call of a line that gives g numbers, a form of a numbers and a factor of b, and expects k numbers, form and factor
+unfoldable pub same_two : Call → ℕ → ℕ → ℕ → List ℕ → ℕ → ℕ → Bool
+same_two call g k more w a b =
+    let i = 3 + more + g in
+    let r = call (get_or w (2 + more) 0) (get_or w 2 0) (take g (drop (3 + more) w)) (from w i a) (from w (i + a) b) in
+    let e = i + a + b in
+    pointwise eqb r.numbers (take k (drop e w)) && are w (e + k) a r.form && are w (e + k + a) b r.factor
 
 -- a line of such a call: the two lengths stand first
-unfoldable pub on_two : ℕ → Call → List ℕ → Outcome
-on_two more call w = let a = get_or w 0 0 in let b = get_or w 1 0 in judged (fits_two more call (length w) a b) (two more call w a b).same
+abbrev pub on_two : Call → ℕ → ℕ → ℕ → List ℕ → Outcome
+on_two call g k more w = let a = get_or w 0 0 in let b = get_or w 1 0 in judged (fits (length w) (3 + more + g + k) 0 a b) (same_two call g k more w a b)
 
 abbrev pub reorder_schur : ℕ → List ℕ → Outcome
-reorder_schur more w = on_two more Call.Move w
+reorder_schur more w = on_two move 2 4 more w
 
 abbrev pub reorder_schur_stopping : ℕ → List ℕ → Outcome
-reorder_schur_stopping more w = on_two more Call.Stopping w
+reorder_schur_stopping more w = on_two stopping 2 5 more w
 
 abbrev pub schur_swap : ℕ → List ℕ → Outcome
-schur_swap more w = on_two more Call.Exchange w
+schur_swap more w = on_two exchange 3 3 more w
+
+-- a form of a numbers and b lent for its vectors
+unfoldable pub same_vectors : ℕ → List ℕ → ℕ → ℕ → Bool
+same_vectors more w a b =
+    let r = Vectors.evd_from_real_schur binary64 (get_or w (2 + more) 0) (get_or w 2 0) (from w (3 + more) a) (from w (3 + more + a) b) in
+    let e = 3 + more + a + b in
+    eqb r.answer (get_or w e 0) && are w (e + 1) b r.v
 
 abbrev pub evd_from_real_schur : ℕ → List ℕ → Outcome
-evd_from_real_schur more w = on_two more Call.Vectors w
+evd_from_real_schur more w = let a = get_or w 0 0 in let b = get_or w 1 0 in judged (fits (length w) (4 + more) a b 0) (same_vectors more w a b)
 
--- a form of a numbers, and b and k lent for the parts of its values, by either reading
-abbrev pub values_in : Bool → ℕ → List ℕ → ℕ → ℕ → ℕ → Values.BlockValues
-values_in standardise more w a b k =
-    Values.values_read binary64 (reading standardise) (get_or w (3 + more) 0) (get_or w 3 0) (from w (4 + more) a) (record { re = from w (4 + more + a) b; im = from w (4 + more + a + b) k })
-
-unfoldable pub same_values : Bool → ℕ → List ℕ → ℕ → ℕ → ℕ → Bool
-same_values standardise more w a b k =
-    let r = values_in standardise more w a b k in
+-- a form of a numbers, and b and k lent for the parts of its values, by a reading
+unfoldable pub same_values : Values.Reading → ℕ → List ℕ → ℕ → ℕ → ℕ → Bool
+same_values read more w a b k =
+    let r = Values.values_read binary64 read (get_or w (3 + more) 0) (get_or w 3 0) (from w (4 + more) a) (record { re = from w (4 + more + a) b; im = from w (4 + more + a + b) k }) in
     let e = 4 + more + a + b + k in
-    is w e r.answer && are w (e + 1) b r.parts.re && are w (e + 1 + b) k r.parts.im
+    eqb r.answer (get_or w e 0) && are w (e + 1) b r.parts.re && are w (e + 1 + b) k r.parts.im
 
-abbrev pub on_values : Bool → ℕ → List ℕ → Outcome
-on_values standardise more w =
-    let a = get_or w 0 0 in let b = get_or w 1 0 in let k = get_or w 2 0 in judged (fits (length w) (5 + more) a b k) (same_values standardise more w a b k)
+abbrev pub on_values : Values.Reading → ℕ → List ℕ → Outcome
+on_values read more w =
+    let a = get_or w 0 0 in let b = get_or w 1 0 in let k = get_or w 2 0 in judged (fits (length w) (5 + more) a b k) (same_values read more w a b k)
 
 abbrev pub block_values : ℕ → List ℕ → Outcome
-block_values more w = on_values false more w
+block_values more w = on_values (Values.as_it_stands binary64) more w
 
 abbrev pub standardised_values : ℕ → List ℕ → Outcome
-standardised_values more w = on_values true more w
+standardised_values more w = on_values (Values.standardised_first binary64) more w
 
 -- vectors of a numbers, and the rest of the line is the part, of length 0 where it is refused
 unfoldable pub same_column : ℕ → List ℕ → ℕ → Bool

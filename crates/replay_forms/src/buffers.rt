@@ -1,63 +1,44 @@
-// Buffers of numbers, filled from the words of a line and compared with them.
-ghost use Rattle.std.specs.Prelude.{◌≡◌, ◌+◌, ◌≤◌, length, replicate};
+// Buffers of numbers, filled from the words of a line.
+ghost use Rattle.std.specs.Prelude.{◌≡◌, ◌<◌, ◌≤◌, length, map, MatchOption};
 ghost use Rattle.std.specs.Float.{binary64};
 ghost use Rattle.std.specs.Float.Ieee.{of_bits};
-ghost use Rattle.replay_text.specs.Shown.{from};
+ghost use Rattle.refusal.specs.Line.{answer};
 ghost use Rattle.replay_forms.specs.Lines as Lines;
 
 use bits::float::floats_of;
-use replay_text::float::are_words;
+use refusal::Refusal;
+use replay_text::outcome::{Outcome, judge};
 
 // Room for 65 columns, one more than a call takes, 128 places apart.
-pub fn room() -> [f64; 8320]
-    ensures { (result ≡ replicate 8320 (of_bits binary64 0)) × (8320 ≡ length result) }
-{
+pub fn room() -> [f64; 8320] {
     [0.0; 8320]
 }
 
-// Whether so many words are `rest` and buffers that a room holds: one of `once` numbers that
-// is given, and two of a and b numbers that are given and expected.
-pub fn fits(words: usize, rest: usize, once: usize, a: usize, b: usize) -> bool
-    requires { rest ≤ 11 }
-    ensures { result ≡ Lines.fits words rest once a b }
+// The front of a room with the numbers of the words, if it holds them.
+pub fn numbers<'a>(room: &'a mut [f64; 8320], w: &[u64]) -> Option<&'a mut [f64]>
+    ensures cases { MatchOption result (8320 < length w.now) (λ x. (x.now ≡ map (of_bits binary64) w.now) × (length w.now ≤ 8320)) }
 {
-    if once > 8320 {
-        return false;
+    if w.len() > room.len() {
+        return None;
     }
-    if a > 8320 {
-        return false;
-    }
-    if b > 8320 {
-        return false;
-    }
-    words == rest + once + 2 * (a + b)
+    let front = &mut room[..w.len()];
+    floats_of(w, &mut *front);
+    Some(front)
 }
 
-// The numbers of the words from word i on, as many as x has places.
-pub fn fill(x: &mut [f64], w: &[u64], i: usize)
-    requires { i + length x.old ≤ length w.now }
-    ensures { x.new ≡ from w.now i (length x.old) }
+// What a line shows: none that was read is no line of the call.
+pub fn outcome(same: Option<bool>) -> Outcome
+    ensures { result ≡ Lines.outcome same }
 {
-    let end = i + x.len();
-    floats_of(&w[i..end], x);
+    same.map_or(Outcome::Malformed, judge)
 }
 
-// The same of two buffers, the second's words after the first's.
-pub fn fill_two(x: &mut [f64], y: &mut [f64], w: &[u64], i: usize)
-    requires { i + length x.old + length y.old ≤ length w.now }
-    ensures { (x.new ≡ from w.now i (length x.old))
-        × (y.new ≡ from w.now (i + length x.old) (length y.old)) }
+// What a call answers: 0, or the number of the line that turned it away.
+pub fn number(r: Result<(), Refusal>) -> u64
+    ensures { result ≡ answer r }
 {
-    let second = i + x.len();
-    fill(&mut *x, w, i);
-    fill(&mut *y, w, second);
-}
-
-// Whether the numbers x are those of the k words from word i on.
-pub fn are(w: &[u64], i: usize, k: usize, x: &[f64]) -> bool
-    requires { i + k ≤ length w.now }
-    ensures { result ≡ Lines.are w.now i k x.now }
-{
-    let end = i + k;
-    are_words(x, &w[i..end])
+    match r {
+        Ok(()) => 0,
+        Err(refusal) => usize::from(refusal) as u64,
+    }
 }

@@ -1,9 +1,8 @@
 // Tests: lines of the calls on forms: exchange, moves, vectors, block values and column. Their words begin
-// with the lengths of the buffers, so that buffers of any length that a room holds can stand in a line. A line of the base has
-// no stride, and n serves for it; a line with a stride has it after n: one word `more`.
+// with the lengths of the buffers, so that buffers of any length that a room holds can stand in a line.
 #![tactic(auto)]
 
 mod buffers;
+pub mod head;
 pub mod moves;
-mod two;
 pub mod vectors;

@@ -1,128 +1,115 @@
-// Lines of the two moves and of an exchange: the two lengths, the numbers, form and factor as they
-// are given; the numbers of the answer, form and factor as they are expected.
-ghost use Rattle.std.specs.Prelude.{◌≡◌, cond, ◌+◌, ◌*◌, ◌≤◌, length};
+// Lines of the two moves and of an exchange: the two lengths, n, the stride if it is given, the numbers that the call
+// takes, form and factor as they are given; the numbers of the answer, form and factor as they are expected.
+ghost use Rattle.std.specs.Prelude.{◌≡◌, ◌≤◌};
 ghost use Rattle.replay_forms.specs.Lines as Lines;
+ghost use Rattle.replay_forms.specs.Lines.{more};
 
-use crate::buffers::{are, fill_two};
-use crate::two::{Call, on_two};
+use crate::buffers::{numbers, outcome, room};
+use crate::head::Stride;
+use replay_text::float::are_words;
 use replay_text::outcome::Outcome;
 
-// Whether the words from word i on are what every such answer ends with: swaps, declined, a form of a
-// numbers and a factor of b.
-fn ends(
-    w: &[u64],
-    i: usize,
-    swaps: usize,
-    declined: usize,
-    a: usize,
-    t: &[f64],
-    b: usize,
-    u: &[f64],
-) -> bool
-    requires { i + 2 + a + b ≤ length w.now }
-    ensures { result ≡ Lines.ends w.now i swaps declined a t.now b u.now }
-{
-    let tried = swaps as u64 == w[i];
-    let left = declined as u64 == w[i + 1];
-    let form = are(w, i + 2, a, t);
-    let factor = are(w, i + 2 + a, b, u);
-    tried & left & form & factor
+// A call on a form and a factor, which takes G numbers beside n and the stride, and answers N.
+pub trait OnTwo<const G: usize, const N: usize> {
+    ghost gives: { Lines.Call };
+
+    // Turned away, it answers the refusal's number and 0 for each other.
+    fn call(n: usize, ld: usize, given: &[u64; G], t: &mut [f64], u: &mut [f64]) -> [u64; N]
+        ensures { (record { numbers = result; form = t.new; factor = u.new }) ≡ gives ld n given.now t.old u.old };
 }
 
-// The move of a line, in a form and a factor of the right lengths.
-pub fn same_move(more: usize, w: &[u64], t: &mut [f64], u: &mut [f64]) -> bool
-    requires { (length t.old ≤ 8320) × (length u.old ≤ 8320) × (more ≤ 1) × (length w.now ≡ 9 + more + 2 * (length t.old + length u.old)) }
-    ensures { (result ≡ Lines.same_move more w.now (length t.old) (length u.old))
-        × (t.new ≡ (Lines.move_in more w.now (length t.old) (length u.old)).form)
-        × (u.new ≡ (Lines.move_in more w.now (length t.old) (length u.old)).factor) }
-{
-    let a = t.len();
-    let b = u.len();
-    fill_two(&mut *t, &mut *u, w, 5 + more);
-    let n = w[2] as usize;
-    let ld = w[2 + more] as usize;
-    let from = w[3 + more] as usize;
-    let to = w[4 + more] as usize;
-    let r = schur::reorder::reorder_schur(n, ld, &mut *t, &mut *u, from, to);
-    let e = 5 + more + a + b;
-    let answer = r.answer as u64 == w[e];
-    let landed = r.landed as u64 == w[e + 1];
-    let rest = ends(w, e + 2, r.swaps, r.declined, a, &*t, b, &*u);
-    answer & landed & rest
+// from to; answer landed swaps declined.
+pub struct Move;
+
+impl OnTwo<2, 4> for Move {
+    ghost gives = { Lines.move };
+
+    fn call(n: usize, ld: usize, &[from, to]: &[u64; 2], t: &mut [f64], u: &mut [f64]) -> [u64; 4] {
+        match schur::reorder::reorder_schur(n, ld, t, u, from as usize, to as usize) {
+            Ok(r) => [0, r.landed as u64, r.swaps as u64, r.declined as u64],
+            Err(refusal) => [usize::from(refusal) as u64, 0, 0, 0],
+        }
+    }
 }
 
-// Two lengths, n, the stride if it is given, from to, form, factor; answer landed swaps declined, form, factor.
-pub fn reorder_schur(more: usize, w: &[u64]) -> Outcome
-    requires { more ≤ 1 }
-    ensures { result ≡ Lines.reorder_schur more w.now }
-{
-    on_two(more, Call::Move, w)
+// from to; answer stopped here swaps declined, with 1 for the mark.
+pub struct StoppingMove;
+
+impl OnTwo<2, 5> for StoppingMove {
+    ghost gives = { Lines.stopping };
+
+    fn call(n: usize, ld: usize, &[from, to]: &[u64; 2], t: &mut [f64], u: &mut [f64]) -> [u64; 5] {
+        match stopping::reorder::reorder_schur_stopping(n, ld, t, u, from as usize, to as usize) {
+            Ok(r) => {
+                let stopped = u64::from(r.stopped);
+                [0, stopped, r.here as u64, r.swaps as u64, r.declined as u64]
+            }
+            Err(refusal) => [usize::from(refusal) as u64, 0, 0, 0, 0],
+        }
+    }
 }
 
-// The word of a mark: 1 where it is set.
-fn mark(set: bool) -> u64
-    ensures { result ≡ cond set 1 0 }
-{
-    if set { 1 } else { 0 }
+// j0 n1 n2; answer swaps declined.
+pub struct Exchange;
+
+impl OnTwo<3, 3> for Exchange {
+    ghost gives = { Lines.exchange };
+
+    fn call(
+        n: usize,
+        ld: usize,
+        &[j0, n1, n2]: &[u64; 3],
+        t: &mut [f64],
+        u: &mut [f64],
+    ) -> [u64; 3] {
+        match schur::swap::schur_swap(n, ld, t, u, j0 as usize, n1 as usize, n2 as usize) {
+            Ok(r) => [0, r.swaps as u64, r.declined as u64],
+            Err(refusal) => [usize::from(refusal) as u64, 0, 0],
+        }
+    }
 }
 
-// The stopping move of a line, in a form and a factor of the right lengths.
-pub fn same_stopping(more: usize, w: &[u64], t: &mut [f64], u: &mut [f64]) -> bool
-    requires { (length t.old ≤ 8320) × (length u.old ≤ 8320) × (more ≤ 1) × (length w.now ≡ 10 + more + 2 * (length t.old + length u.old)) }
-    ensures { (result ≡ Lines.same_stopping more w.now (length t.old) (length u.old))
-        × (t.new ≡ (Lines.stopping_in more w.now (length t.old) (length u.old)).form)
-        × (u.new ≡ (Lines.stopping_in more w.now (length t.old) (length u.old)).factor) }
+// A line of such a call: whether it gives what is expected, or none if this is no line of it.
+#[tactic(auto, unfolding(crate::specs::Lines::fits))]
+fn on_two<const G: usize, const N: usize, C: OnTwo<G, N>>(stride: Stride, w: &[u64]) -> Option<bool>
+    requires { (G ≤ 8) × (N ≤ 8) }
+    ensures { Lines.outcome result ≡ Lines.on_two C.gives G N (more stride) w.now }
 {
-    let a = t.len();
-    let b = u.len();
-    fill_two(&mut *t, &mut *u, w, 5 + more);
-    let n = w[2] as usize;
-    let ld = w[2 + more] as usize;
-    let from = w[3 + more] as usize;
-    let to = w[4 + more] as usize;
-    let r = stopping::reorder::reorder_schur_stopping(n, ld, &mut *t, &mut *u, from, to);
-    let e = 5 + more + a + b;
-    let answer = r.answer as u64 == w[e];
-    let stopped = mark(r.stopped) == w[e + 1];
-    let here = r.here as u64 == w[e + 2];
-    let rest = ends(w, e + 3, r.swaps, r.declined, a, &*t, b, &*u);
-    answer & stopped & here & rest
+    let (&[a, b], shape) = w.split_first_chunk::<2>()?;
+    let head = stride.head(shape)?;
+    let (given, form) = head.rest.split_first_chunk::<G>()?;
+    let (form, factor) = form.split_at_checked(a as usize)?;
+    let (factor, told) = factor.split_at_checked(b as usize)?;
+    let (told, form_after) = told.split_first_chunk::<N>()?;
+    let (form_after, factor_after) = form_after.split_at_checked(a as usize)?;
+    if factor_after.len() as u64 != b {
+        return None;
+    }
+    let mut t = room();
+    let mut u = room();
+    let t = numbers(&mut t, form)?;
+    let u = numbers(&mut u, factor)?;
+    let answered = C::call(head.n, head.ld, given, &mut *t, &mut *u);
+    let same = answered == *told;
+    let form = are_words(&*t, form_after);
+    let factor = are_words(&*u, factor_after);
+    Some(same & form & factor)
 }
 
-// Two lengths, n, the stride if it is given, from to, form, factor; answer stopped here swaps declined, form, factor.
-pub fn reorder_schur_stopping(more: usize, w: &[u64]) -> Outcome
-    requires { more ≤ 1 }
-    ensures { result ≡ Lines.reorder_schur_stopping more w.now }
+pub fn reorder_schur(stride: Stride, w: &[u64]) -> Outcome
+    ensures { result ≡ Lines.reorder_schur (more stride) w.now }
 {
-    on_two(more, Call::Stopping, w)
+    outcome(on_two::<2, 4, Move>(stride, w))
 }
 
-// The exchange of a line, in a form and a factor of the right lengths.
-pub fn same_exchange(more: usize, w: &[u64], t: &mut [f64], u: &mut [f64]) -> bool
-    requires { (length t.old ≤ 8320) × (length u.old ≤ 8320) × (more ≤ 1) × (length w.now ≡ 9 + more + 2 * (length t.old + length u.old)) }
-    ensures { (result ≡ Lines.same_exchange more w.now (length t.old) (length u.old))
-        × (t.new ≡ (Lines.exchange_in more w.now (length t.old) (length u.old)).form)
-        × (u.new ≡ (Lines.exchange_in more w.now (length t.old) (length u.old)).factor) }
+pub fn reorder_schur_stopping(stride: Stride, w: &[u64]) -> Outcome
+    ensures { result ≡ Lines.reorder_schur_stopping (more stride) w.now }
 {
-    let a = t.len();
-    let b = u.len();
-    fill_two(&mut *t, &mut *u, w, 6 + more);
-    let n = w[2] as usize;
-    let ld = w[2 + more] as usize;
-    let j0 = w[3 + more] as usize;
-    let n1 = w[4 + more] as usize;
-    let n2 = w[5 + more] as usize;
-    let r = schur::swap::schur_swap(n, ld, &mut *t, &mut *u, j0, n1, n2);
-    let e = 6 + more + a + b;
-    let answer = r.answer as u64 == w[e];
-    let rest = ends(w, e + 1, r.swaps, r.declined, a, &*t, b, &*u);
-    answer & rest
+    outcome(on_two::<2, 5, StoppingMove>(stride, w))
 }
 
-// Two lengths, n, the stride if it is given, j0 n1 n2, form, factor; answer swaps declined, form, factor.
-pub fn schur_swap(more: usize, w: &[u64]) -> Outcome
-    requires { more ≤ 1 }
-    ensures { result ≡ Lines.schur_swap more w.now }
+pub fn schur_swap(stride: Stride, w: &[u64]) -> Outcome
+    ensures { result ≡ Lines.schur_swap (more stride) w.now }
 {
-    on_two(more, Call::Exchange, w)
+    outcome(on_two::<3, 3, Exchange>(stride, w))
 }
