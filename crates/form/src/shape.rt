@@ -8,7 +8,6 @@ ghost use Rattle.model.specs.Swaps as Swaps;
 ghost use Rattle.refusal.specs.Line.{answer};
 ghost use Rattle.form.specs.Lines.{size_line};
 
-use crate::{place, row_start};
 use refusal::Refusal;
 
 // A form has n rows and columns, ld places from one column to the next.
@@ -46,7 +45,7 @@ impl Shape {
         requires { (i ≤ 128) × (j < self.n) }
         ensures { (result ≡ i + self.ld * j) × (result + self.ld ≤ i + self.ld * self.n) }
     {
-        place(self.ld, self.n, i, j)
+        crate::place(self.ld, self.n, i, j)
     }
 
     // Where the rest of row i starts, from column j on: nothing is left of it where j is n.
@@ -54,7 +53,7 @@ impl Shape {
         requires { (i < self.n) × (j ≤ self.n) }
         ensures { (result ≡ i + self.ld * j) × (result + self.ld * (self.n - j) < self.n + self.ld * self.n) }
     {
-        row_start(self.ld, self.n, i, j)
+        crate::row_start(self.ld, self.n, i, j)
     }
 
     // The number in row i, column j.
