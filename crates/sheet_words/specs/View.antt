@@ -1,4 +1,4 @@
--- The model's value of the Rust's. Definitions only. Assumes nothing.
+-- A request as the model has it. Definitions only. Assumes nothing.
 use Rattle.model.specs.Text as Text
 use Rattle.sheet_words.specs.declared.request.Request.{Request}
 
