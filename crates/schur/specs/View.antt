@@ -4,7 +4,7 @@ use Rattle.model.specs.Exchange as Exchange
 use Rattle.model.specs.Move as Move
 use Rattle.refusal.specs.Line.{line}
 use Rattle.refusal.specs.declared.Refusal.{Refusal}
-use Rattle.schur.specs.declared.counts.Counts.{Counts}
+use Rattle.walks.specs.declared.counts.Counts.{Counts}
 use Rattle.schur.specs.declared.reorder.Moved.{Moved}
 
 -- the answers of a move and an exchange, with what form and factor then hold

@@ -8,13 +8,13 @@ ghost use Rattle.form.specs.Run.{Rows};
 ghost use Rattle.form.specs.Shaped.{Holds, Beside};
 ghost use Rattle.swaps.specs.Done.{Done, Step};
 
-use crate::counts::Counts;
 use arrayvec::ArrayVec;
 use form::shape::Shape;
 use swaps::standardise::standardise;
 use swaps::swap_11::schur_swap_11;
 use swaps::swap_12::{schur_swap_12, schur_swap_21};
 use swaps::swap_22::schur_swap_22;
+use walks::counts::Counts;
 
 // One swap of the n1 rows from row j on with the n2 below them.
 fn swap_of(s: Shape, t: &mut [f64], u: &mut [f64], j: usize, n1: usize, n2: usize) -> Counts

@@ -5,13 +5,13 @@ ghost use Rattle.model.specs.Move as Move;
 ghost use Rattle.model.specs.Stopping as Stopping;
 ghost use Rattle.schur.specs.View.{moved};
 
-use crate::counts::Counts;
 use crate::exchange::exchange_straight;
-use crate::moving::Kind;
-use crate::walk::walk;
 use form::lines::accepted_move;
 use form::shape::Shape;
 use refusal::Refusal;
+use walks::counts::Counts;
+use walks::moving::Kind;
+use walks::walk::walk;
 
 // A move that goes on after a decline.
 pub struct GoesOn;

@@ -4,10 +4,10 @@ ghost use Rattle.std.specs.Float.{binary64};
 ghost use Rattle.model.specs.Exchange as Exchange;
 ghost use Rattle.schur.specs.View.{exchanged};
 
-use crate::counts::Counts;
 use crate::exchange::exchange;
 use form::lines::accepted_exchange;
 use refusal::Refusal;
+use walks::counts::Counts;
 
 // The exchange of the n1 rows from row j0 on with the n2 below them.
 pub fn schur_swap(

@@ -20,11 +20,18 @@ pub fn inner_prod(lhs: Strided, rhs: Strided) -> f64
     acc
 }
 
+// The results of dot2x1.
+#[derive(Clone, Copy)]
+pub struct Two {
+    pub d0: f64,
+    pub d1: f64,
+}
+
 // Two rows of lhs with rhs: even and odd places apart, added last.
 #[tactic(auto, using(crate::proofs::Sums::halves_all, crate::proofs::Sums::halves_next, crate::proofs::Sums::halves_last, crate::proofs::Sums::halves_done))]
-pub fn dot2x1(lhs0: Strided, lhs1: Strided, rhs: Strided) -> (f64, f64)
+pub fn dot2x1(lhs0: Strided, lhs1: Strided, rhs: Strided) -> Two
     requires { (lhs1.count ≡ lhs0.count) × (rhs.count ≡ lhs0.count) }
-    ensures { (result.0 ≡ split_prod binary64 (numbers lhs0.entry) (numbers rhs.entry) lhs0.entry.count) × (result.1 ≡ split_prod binary64 (numbers lhs1.entry) (numbers rhs.entry) lhs0.entry.count) }
+    ensures { (result.d0 ≡ split_prod binary64 (numbers lhs0.entry) (numbers rhs.entry) lhs0.entry.count) × (result.d1 ≡ split_prod binary64 (numbers lhs1.entry) (numbers rhs.entry) lhs0.entry.count) }
 {
     let n = lhs0.count;
     let mut acc00 = 0.0;
@@ -42,15 +49,27 @@ pub fn dot2x1(lhs0: Strided, lhs1: Strided, rhs: Strided) -> (f64, f64)
         acc00 += lhs0.at(n - 1) * rhs.at(n - 1);
         acc10 += lhs1.at(n - 1) * rhs.at(n - 1);
     }
-    (acc00 + acc01, acc10 + acc11)
+    Two {
+        d0: acc00 + acc01,
+        d1: acc10 + acc11,
+    }
+}
+
+// The results of dot2x2.
+#[derive(Clone, Copy)]
+pub struct Four {
+    pub d00: f64,
+    pub d10: f64,
+    pub d01: f64,
+    pub d11: f64,
 }
 
 // Two rows of lhs with two of rhs, each from +0, left to right: the two of lhs with rhs0, then with rhs1.
 // In one loop, as four inner_prods take a third longer for all vectors of 64 rows in 2-blocks.
 #[tactic(auto, using(crate::proofs::Sums::all, crate::proofs::Sums::next, crate::proofs::Sums::done))]
-pub fn dot2x2(lhs0: Strided, lhs1: Strided, rhs0: Strided, rhs1: Strided) -> (f64, f64, f64, f64)
+pub fn dot2x2(lhs0: Strided, lhs1: Strided, rhs0: Strided, rhs1: Strided) -> Four
     requires { (lhs1.count ≡ lhs0.count) × (rhs0.count ≡ lhs0.count) × (rhs1.count ≡ lhs0.count) }
-    ensures { (result.0 ≡ inner_prod binary64 (numbers lhs0.entry) (numbers rhs0.entry) lhs0.entry.count) × (result.1 ≡ inner_prod binary64 (numbers lhs1.entry) (numbers rhs0.entry) lhs0.entry.count) × (result.2 ≡ inner_prod binary64 (numbers lhs0.entry) (numbers rhs1.entry) lhs0.entry.count) × (result.3 ≡ inner_prod binary64 (numbers lhs1.entry) (numbers rhs1.entry) lhs0.entry.count) }
+    ensures { (result.d00 ≡ inner_prod binary64 (numbers lhs0.entry) (numbers rhs0.entry) lhs0.entry.count) × (result.d10 ≡ inner_prod binary64 (numbers lhs1.entry) (numbers rhs0.entry) lhs0.entry.count) × (result.d01 ≡ inner_prod binary64 (numbers lhs0.entry) (numbers rhs1.entry) lhs0.entry.count) × (result.d11 ≡ inner_prod binary64 (numbers lhs1.entry) (numbers rhs1.entry) lhs0.entry.count) }
 {
     let mut acc0 = 0.0;
     let mut acc1 = 0.0;
@@ -62,5 +81,10 @@ pub fn dot2x2(lhs0: Strided, lhs1: Strided, rhs0: Strided, rhs1: Strided) -> (f6
         acc2 += lhs0.at(i) * rhs1.at(i);
         acc3 += lhs1.at(i) * rhs1.at(i);
     }
-    (acc0, acc1, acc2, acc3)
+    Four {
+        d00: acc0,
+        d10: acc1,
+        d01: acc2,
+        d11: acc3,
+    }
 }

@@ -86,12 +86,12 @@ impl Shifted<'_> {
         let im = Strided::run(x, ld + (i + 2), count);
         let dot = dot2x2(a.row(i, i + 2), a.row(i + 1, i + 2), re, im);
         let upper = Complex {
-            re: dot.0,
-            im: dot.2,
+            re: dot.d00,
+            im: dot.d01,
         };
         let lower = Complex {
-            re: dot.1,
-            im: dot.3,
+            re: dot.d10,
+            im: dot.d11,
         };
         Rows {
             upper: self.at(i, x) - upper,
@@ -118,8 +118,8 @@ impl EachBlock for Shifted<'_> {
         let im = Strided::run(&*x, ld + (i + 1), count);
         let dot = dot2x1(re, im, a.row(i, i + 1));
         let below = Complex {
-            re: dot.0,
-            im: dot.1,
+            re: dot.d0,
+            im: dot.d1,
         };
         let r = self.at(i, &*x) - below;
         let z = self.shifted(a.get(i, i));

@@ -3,7 +3,7 @@ ghost use Rattle.std.specs.Prelude.{◌≡◌, ◌<◌, ◌≤◌, length};
 ghost use Rattle.std.specs.Float.{binary64};
 ghost use Rattle.model.specs.Vectors as Vectors;
 
-use crate::dots::{dot2x1, inner_prod};
+use crate::dots::{Two, dot2x1, inner_prod};
 use crate::leading::Leading;
 use crate::strided::Strided;
 use crate::walk::{EachBlock, blocks_down};
@@ -57,9 +57,9 @@ impl EachBlock for Shifted<'_> {
     fn two(&self, i: usize, x: &mut [f64]) {
         let a = self.a;
         let rest = Strided::run(&*x, i + 2, a.n - (i + 2));
-        let (dot0, dot1) = dot2x1(a.row(i, i + 2), a.row(i + 1, i + 2), rest);
-        let r0 = x[i] - dot0;
-        let r1 = x[i + 1] - dot1;
+        let Two { d0, d1 } = dot2x1(a.row(i, i + 2), a.row(i + 1, i + 2), rest);
+        let r0 = x[i] - d0;
+        let r1 = x[i + 1] - d1;
         let k = a.block(i);
         let d = k.d - self.p;
         let inv_det = recip(abs2(d) - k.b * k.c);

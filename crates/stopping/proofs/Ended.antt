@@ -8,9 +8,9 @@ use Rattle.model.specs.Move.{move_line}
 use Rattle.model.specs.Stopping.{Stopped, stopping_move, stopping_call}
 use Rattle.form.specs.declared.shape.Shape.{Shape}
 use Rattle.form.specs.Shaped.{IsOf}
-use Rattle.schur.specs.declared.moving.Moving.{Moving}
-use Rattle.schur.specs.Kinds.{either}
-use Rattle.schur.specs.Stands.{Stood}
+use Rattle.walks.specs.declared.moving.Moving.{Moving}
+use Rattle.walks.specs.Kinds.{either}
+use Rattle.walks.specs.Stands.{Stood}
 
 pub ended : {s : Shape} {n ld : ℕ} (from to : ℕ) {t u t₁ u₁ : List Float} {r : Result Moving Moving} → IsOf s n ld t → 0 ≡ move_line binary64 ld n t u from to
     → Stood s u t₁ u₁ r (stopping_move binary64 s.ld s.n from to t)

@@ -7,10 +7,10 @@ ghost use Rattle.stopping.specs.View.{stopped};
 use form::lines::accepted_move;
 use form::shape::Shape;
 use refusal::Refusal;
-use schur::counts::Counts;
-use schur::moving::Kind;
-use schur::walk::walk;
 use tries::exchange::try_exchange;
+use walks::counts::Counts;
+use walks::moving::Kind;
+use walks::walk::walk;
 
 // A move that stops at the first exchange whose test fails.
 pub struct Stops;

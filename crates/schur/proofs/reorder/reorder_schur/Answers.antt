@@ -3,7 +3,7 @@ use mathlib.Core.Path.{◌≡◌}
 use Rattle.std.proofs.Common.{rules, Err}
 use Rattle.model.specs.Move.{move_call}
 use Rattle.refusal.proofs.Told.{told}
-use Rattle.schur.proofs.Ways.{ended_move}
+use Rattle.walks.proofs.Ways.{ended_move}
 use Rattle.schur.proofs.reorder.reorder_schur.Goals as goal
 
 pub returns-in_err-s : goal.returns-in_err-s

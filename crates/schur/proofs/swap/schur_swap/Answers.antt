@@ -3,7 +3,7 @@ use mathlib.Core.Path.{◌≡◌}
 use Rattle.std.proofs.Common.{rules, Err}
 use Rattle.model.specs.Exchange.{exchange_call}
 use Rattle.refusal.proofs.Told.{told}
-use Rattle.schur.proofs.Ways.{ended-exchange}
+use Rattle.walks.proofs.Ways.{ended-exchange}
 use Rattle.schur.proofs.swap.schur_swap.Goals as goal
 
 pub returns-in_err-s : goal.returns-in_err-s

@@ -1,7 +1,0 @@
--- Counts added up. Definitions only. Assumes nothing.
-use Rattle.std.specs.Prelude.{◌+◌}
-use Rattle.schur.specs.declared.counts.Counts.{Counts}
-
--- the counts of one after the other
-abbrev pub both : Counts → Counts → Counts
-both a b = record { swaps = a.swaps + b.swaps; declined = a.declined + b.declined }
