@@ -15,46 +15,46 @@ use Rattle.replay_text.specs.declared.outcome.Outcome.{Outcome}
 use Rattle.replay_forms.specs.Lines.{evd_from_real_schur, same_vectors}
 use Rattle.replay_forms.proofs.Parts.{numbers, fit, further, first, word}
 
-module _ (more : ℕ) (w : List ℕ) where
-  module _
-      {a b n ld told x : ℕ} {w₁ w₂ form w₃ lent w₄ rest : List ℕ} {t v v' : List Float}
-      (a-is : a ≡ get_or w 0 0) (b-is : b ≡ get_or w 1 0)
-      (e₁ : w₁ ≡ drop 2 w) (n-is : n ≡ get_or w₁ 0 0) (ld-is : ld ≡ get_or w₁ more 0) (e₂ : w₂ ≡ drop (1 + more) w₁)
-      (form-is : form ≡ take a w₂) (e₃ : w₃ ≡ drop a w₂)
-      (lent-is : lent ≡ take b w₃) (e₄ : w₄ ≡ drop b w₃)
-      (e₅ : w₄ ≡ told ∷ rest) (all : length rest ≡ b)
-      (t-is : t ≡ numbers form) (v-is : v ≡ numbers lent)
-      (form-holds : a ≤ 8320) (lent-holds : b ≤ 8320) (fits : length w ≡ 4 + more + a + 2 * (b + 0))
-      (answered : record { answer = x; v = v' } ≡ Vectors.evd_from_real_schur binary64 ld n t v)
-    where
-      at₂ : w₂ ≡ drop (3 + more) w
-      at₂ = further w 2 (1 + more) (3 + more) e₁ e₂ (omega arith)
+module _
+    (more : ℕ) (w : List ℕ)
+    {a b n ld told x : ℕ} {w₁ w₂ form w₃ lent w₄ rest : List ℕ} {t v v' : List Float}
+    (a-is : a ≡ get_or w 0 0) (b-is : b ≡ get_or w 1 0)
+    (e₁ : w₁ ≡ drop 2 w) (n-is : n ≡ get_or w₁ 0 0) (ld-is : ld ≡ get_or w₁ more 0) (e₂ : w₂ ≡ drop (1 + more) w₁)
+    (form-is : form ≡ take a w₂) (e₃ : w₃ ≡ drop a w₂)
+    (lent-is : lent ≡ take b w₃) (e₄ : w₄ ≡ drop b w₃)
+    (e₅ : w₄ ≡ told ∷ rest) (all : length rest ≡ b)
+    (t-is : t ≡ numbers form) (v-is : v ≡ numbers lent)
+    (form-holds : a ≤ 8320) (lent-holds : b ≤ 8320) (fits : length w ≡ 4 + more + a + 2 * (b + 0))
+    (answered : record { answer = x; v = v' } ≡ Vectors.evd_from_real_schur binary64 ld n t v)
+  where
+    at₂ : w₂ ≡ drop (3 + more) w
+    at₂ = further w 2 (1 + more) (3 + more) e₁ e₂ (omega arith)
 
-      at₃ : w₃ ≡ drop (3 + more + a) w
-      at₃ = further w (3 + more) a (3 + more + a) at₂ e₃ refl
+    at₃ : w₃ ≡ drop (3 + more + a) w
+    at₃ = further w (3 + more) a (3 + more + a) at₂ e₃ refl
 
-      at₄ : w₄ ≡ drop (3 + more + a + b) w
-      at₄ = further w (3 + more + a) b (3 + more + a + b) at₃ e₄ refl
+    at₄ : w₄ ≡ drop (3 + more + a + b) w
+    at₄ = further w (3 + more + a) b (3 + more + a + b) at₃ e₄ refl
 
-      told-at : told ≡ get_or w (3 + more + a + b) 0
-      told-at = (first e₅).0 ∙ rw (at₄, word (3 + more + a + b) w)
+    told-at : told ≡ get_or w (3 + more + a + b) 0
+    told-at = (first e₅).0 ∙ rw (at₄, word (3 + more + a + b) w)
 
-      rest-at : rest ≡ take b (drop (3 + more + a + b + 1) w)
-      rest-at =
-          let e = further w (3 + more + a + b) 1 (3 + more + a + b + 1) at₄ (first e₅).1 refl in
-          e ∙ sym (take_all b (drop (3 + more + a + b + 1) w) (rw (← e, all) (omega arith)))
+    rest-at : rest ≡ take b (drop (3 + more + a + b + 1) w)
+    rest-at =
+        let e = further w (3 + more + a + b) 1 (3 + more + a + b + 1) at₄ (first e₅).1 refl in
+        e ∙ sym (take_all b (drop (3 + more + a + b + 1) w) (rw (← e, all) (omega arith)))
 
-      n-at : n ≡ get_or w 2 0
-      n-at = rw (n-is, e₁, get_or-drop 2 w 0 0)
+    n-at : n ≡ get_or w 2 0
+    n-at = rw (n-is, e₁, get_or-drop 2 w 0 0)
 
-      ld-at : ld ≡ get_or w (2 + more) 0
-      ld-at = rw (ld-is, e₁, get_or-drop 2 w more 0)
+    ld-at : ld ≡ get_or w (2 + more) 0
+    ld-at = rw (ld-is, e₁, get_or-drop 2 w more 0)
 
-      same : (eqb x told && are_words v' rest) ≡ same_vectors more w a b
-      unfolding same_vectors
-      same =
-          ap (λ (r : Vectors.Vectors). eqb r.answer told && are_words r.v rest) answered
-          ∙ rw (n-at, ld-at, t-is, v-is, form-is, lent-is, told-at, rest-at, at₂, at₃)
+    same : (eqb x told && are_words v' rest) ≡ same_vectors more w a b
+    unfolding same_vectors
+    same =
+        ap (λ (r : Vectors.Vectors). eqb r.answer told && are_words r.v rest) answered
+        ∙ rw (n-at, ld-at, t-is, v-is, form-is, lent-is, told-at, rest-at, at₂, at₃)
 
-      pub vectors_read : cond (eqb x told && are_words v' rest) Outcome.Same Outcome.Differs ≡ evd_from_real_schur more w
-      vectors_read = rw (← a-is, ← b-is, fit (length w) (4 + more) a b 0 form-holds lent-holds (omega arith) fits, same)
+    pub vectors_read : cond (eqb x told && are_words v' rest) Outcome.Same Outcome.Differs ≡ evd_from_real_schur more w
+    vectors_read = rw (← a-is, ← b-is, fit (length w) (4 + more) a b 0 form-holds lent-holds (omega arith) fits, same)

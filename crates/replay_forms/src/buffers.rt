@@ -10,12 +10,10 @@ use refusal::Refusal;
 use replay_text::outcome::{Outcome, judge};
 
 // Room for 65 columns, one more than a call takes, 128 places apart.
-pub fn room() -> [f64; 8320] {
-    [0.0; 8320]
-}
+pub const ROOM: usize = 8320;
 
 // The front of a room with the numbers of the words, if it holds them.
-pub fn numbers<'a>(room: &'a mut [f64; 8320], w: &[u64]) -> Option<&'a mut [f64]>
+pub fn numbers<'a>(room: &'a mut [f64; ROOM], w: &[u64]) -> Option<&'a mut [f64]>
     ensures cases { MatchOption result (8320 < length w.now) (λ x. (x.now ≡ map (of_bits binary64) w.now) × (length w.now ≤ 8320)) }
 {
     if w.len() > room.len() {

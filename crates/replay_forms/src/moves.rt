@@ -1,16 +1,17 @@
-// Lines of the two moves and of an exchange: the two lengths, n, the stride if it is given, the numbers that the call
-// takes, form and factor as they are given; the numbers of the answer, form and factor as they are expected.
+// Lines of the two moves and of an exchange: the lengths of form and factor, n, the stride if it is given,
+// the numbers that the call takes, form and factor; the numbers of its answer, form and factor as they
+// are expected.
 ghost use Rattle.std.specs.Prelude.{◌≡◌, ◌≤◌};
 ghost use Rattle.replay_forms.specs.Lines as Lines;
 ghost use Rattle.replay_forms.specs.Lines.{more};
 
-use crate::buffers::{numbers, outcome, room};
+use crate::buffers::{ROOM, numbers, outcome};
 use crate::head::Stride;
 use replay_text::float::are_words;
 use replay_text::outcome::Outcome;
 
 // A call on a form and a factor, which takes G numbers beside n and the stride, and answers N.
-pub trait OnTwo<const G: usize, const N: usize> {
+trait OnTwo<const G: usize, const N: usize> {
     ghost gives: { Lines.Call };
 
     // Turned away, it answers the refusal's number and 0 for each other.
@@ -19,7 +20,7 @@ pub trait OnTwo<const G: usize, const N: usize> {
 }
 
 // from to; answer landed swaps declined.
-pub struct Move;
+struct Move;
 
 impl OnTwo<2, 4> for Move {
     ghost gives = { Lines.move };
@@ -33,7 +34,7 @@ impl OnTwo<2, 4> for Move {
 }
 
 // from to; answer stopped here swaps declined, with 1 for the mark.
-pub struct StoppingMove;
+struct StoppingMove;
 
 impl OnTwo<2, 5> for StoppingMove {
     ghost gives = { Lines.stopping };
@@ -50,7 +51,7 @@ impl OnTwo<2, 5> for StoppingMove {
 }
 
 // j0 n1 n2; answer swaps declined.
-pub struct Exchange;
+struct Exchange;
 
 impl OnTwo<3, 3> for Exchange {
     ghost gives = { Lines.exchange };
@@ -69,7 +70,8 @@ impl OnTwo<3, 3> for Exchange {
     }
 }
 
-// A line of such a call: whether it gives what is expected, or none if this is no line of it.
+// A line of such a call, read part by part: whether the call gives what is expected, or none if this is
+// no line of it.
 #[tactic(auto, unfolding(crate::specs::Lines::fits))]
 fn on_two<const G: usize, const N: usize, C: OnTwo<G, N>>(stride: Stride, w: &[u64]) -> Option<bool>
     requires { (G ≤ 8) × (N ≤ 8) }
@@ -85,8 +87,8 @@ fn on_two<const G: usize, const N: usize, C: OnTwo<G, N>>(stride: Stride, w: &[u
     if factor_after.len() as u64 != b {
         return None;
     }
-    let mut t = room();
-    let mut u = room();
+    let mut t = [0.0; ROOM];
+    let mut u = [0.0; ROOM];
     let t = numbers(&mut t, form)?;
     let u = numbers(&mut u, factor)?;
     let answered = C::call(head.n, head.ld, given, &mut *t, &mut *u);

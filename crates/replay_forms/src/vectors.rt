@@ -4,7 +4,7 @@ ghost use Rattle.std.specs.Prelude.{◌≡◌};
 ghost use Rattle.replay_forms.specs.Lines as Lines;
 ghost use Rattle.replay_forms.specs.Lines.{more};
 
-use crate::buffers::{number, numbers, outcome, room};
+use crate::buffers::{ROOM, number, numbers, outcome};
 use crate::head::Stride;
 use replay_text::float::are_words;
 use replay_text::outcome::Outcome;
@@ -24,8 +24,8 @@ fn on_vectors(stride: Stride, w: &[u64]) -> Option<bool>
     if after.len() as u64 != b {
         return None;
     }
-    let mut t = room();
-    let mut v = room();
+    let mut t = [0.0; ROOM];
+    let mut v = [0.0; ROOM];
     let t = numbers(&mut t, form)?;
     let v = numbers(&mut v, lent)?;
     let r = evd::vectors::evd_from_real_schur(head.n, head.ld, &*t, &mut *v);
@@ -55,9 +55,9 @@ fn on_values<R: Reading>(stride: Stride, w: &[u64]) -> Option<bool>
     if imaginary_after.len() as u64 != k {
         return None;
     }
-    let mut t = room();
-    let mut re = room();
-    let mut im = room();
+    let mut t = [0.0; ROOM];
+    let mut re = [0.0; ROOM];
+    let mut im = [0.0; ROOM];
     let t = numbers(&mut t, form)?;
     let re = numbers(&mut re, real)?;
     let im = numbers(&mut im, imaginary)?;
@@ -90,7 +90,7 @@ fn on_column(stride: Stride, w: &[u64]) -> Option<bool>
     let head = stride.head(shape)?;
     let (&col, vectors) = head.rest.split_first()?;
     let (vectors, part) = vectors.split_at_checked(a as usize)?;
-    let mut v = room();
+    let mut v = [0.0; ROOM];
     let v = numbers(&mut v, vectors)?;
     Some(are_words(
         evd::column::column(head.n, head.ld, &*v, col as usize),
