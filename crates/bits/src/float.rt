@@ -21,7 +21,8 @@ pub fn float_of(w: u64) -> f64
     }
 }
 
-// The numbers of all words. By index: of what is written through an `iter_mut` a proof knows only the length.
+// The numbers of all words. By index: of a slice that is filled from another through iter_mut and zip, a proof
+// knows only the length.
 pub fn floats_of(w: &[u64], out: &mut [f64])
     requires { length w.now ≡ length out.old }
     ensures { out.new ≡ map (of_bits binary64) w.now }

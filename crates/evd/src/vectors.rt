@@ -43,8 +43,8 @@ fn form_norm(s: Shape, t: &[f64]) -> f64
     norm
 }
 
-// `rows` numbers from place p on: those of the form negated. By index, here and below: of what a loop over
-// iter_mut leaves, a proof knows only the length.
+// `rows` numbers from place p on: those of the form negated. By index, here and below: of a slice that is filled
+// from another through iter_mut and zip, a proof knows only the length.
 #[tactic(auto, using(solve::proofs::Left::left_suc, solve::proofs::Left::left_none), unfolding(model::specs::Vectors::negated_run))]
 fn negate_run(t: &[f64], p: usize, rows: usize, v: &mut [f64])
     requires { (p + rows ≤ length t.now) × (p + rows ≤ length v.old) }

@@ -14,8 +14,7 @@ use crate::shape::Shape;
 use refusal::Refusal;
 use std::simd::Simd;
 
-// Whether some of the numbers is not zero. There is no early exit, so that the compiler may test several
-// at a time.
+// Whether some of the numbers is not zero, with no branch on each.
 fn any_nonzero(xs: &[f64]) -> bool
     ensures { result ≡ some (length xs.now) (λ (k : ℕ). ne (at xs.now k) (of_bits binary64 0)) }
 {
@@ -26,7 +25,8 @@ fn any_nonzero(xs: &[f64]) -> bool
     seen
 }
 
-// The same of the first N numbers, all compared at once.
+// The same of the first N numbers, all compared at once: the compiler fences off each float that is compared, so
+// that a loop over them loads and tests them one by one.
 fn any_of_first<const N: usize>(xs: &[f64]) -> bool
     requires { (N ≤ length xs.now) × (N ≤ 64) }
     ensures { result ≡ some N (λ (k : ℕ). ne (at xs.now k) (of_bits binary64 0)) }
