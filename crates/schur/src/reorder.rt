@@ -14,7 +14,7 @@ use walks::moving::Kind;
 use walks::walk::walk;
 
 // A move that goes on after a decline.
-pub struct GoesOn;
+struct GoesOn;
 
 impl Kind for GoesOn {
     ghost kind = { λ ld n. Stopping.goes_on binary64 ld n };

@@ -13,7 +13,7 @@ use walks::moving::Kind;
 use walks::walk::walk;
 
 // A move that stops at the first exchange whose test fails.
-pub struct Stops;
+struct Stops;
 
 impl Kind for Stops {
     ghost kind = { λ ld n. Stopping.stopping binary64 ld n };
