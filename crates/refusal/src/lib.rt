@@ -1,10 +1,10 @@
 // Offered: why a call is turned away, the first line of document 01's list that applies.
 #![tactic(auto)]
 
-ghost use Rattle.refusal.specs.Line.{line};
+ghost use Rattle.refusal.specs.Line.{line, answer};
 ghost use Rattle.std.specs.Prelude.{◌≡◌};
 
-// The lines of the list, each by what is wrong. A program's text has one that no call here has.
+// The lines of the list, each by what is wrong. `Text` is said of what a program is given, and by no call.
 #[derive(Clone, Copy, Debug, PartialEq, Eq)]
 pub enum Refusal {
     Text = 1,
@@ -27,5 +27,15 @@ impl From<Refusal> for usize {
 
     fn from(r: Refusal) -> usize {
         r as usize
+    }
+}
+
+// What a call answers in C: 0 where it was accepted, and else the line's number.
+pub fn number<T>(r: &Result<T, Refusal>) -> usize
+    ensures { result ≡ answer r.now }
+{
+    match r {
+        Ok(_) => 0,
+        Err(refusal) => usize::from(*refusal),
     }
 }
