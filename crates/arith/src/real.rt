@@ -46,6 +46,7 @@ pub fn mul_pow2(x: f64, p: f64) -> f64
 }
 
 // p where p > q or q is a NaN, else q.
+#[tactic(auto, unfolding(model::specs::Arith::fmax))]
 pub fn fmax(p: f64, q: f64) -> f64
     ensures { result ≡ Arith.fmax p q }
 {
@@ -53,6 +54,7 @@ pub fn fmax(p: f64, q: f64) -> f64
 }
 
 // p where p < q or q is a NaN, else q.
+#[tactic(auto, unfolding(model::specs::Arith::fmin))]
 pub fn fmin(p: f64, q: f64) -> f64
     ensures { result ≡ Arith.fmin p q }
 {

@@ -19,6 +19,7 @@ pub struct Reflection {
 }
 
 // A head below MIN_POSITIVE in magnitude becomes +0.
+#[tactic(auto, unfolding(model::specs::Householder::flushed))]
 fn flushed(head: f64) -> f64
     ensures { result ≡ Householder.flushed binary64 head }
 {
@@ -26,6 +27,7 @@ fn flushed(head: f64) -> f64
 }
 
 // The head times the rounded reciprocal of its magnitude, and 1 where that is zero.
+#[tactic(auto, unfolding(model::specs::Householder::sign_of))]
 fn sign_of(head: f64) -> f64
     ensures { result ≡ Householder.sign_of binary64 head }
 {
@@ -47,6 +49,7 @@ fn scale_tail(tail: &mut [f64], k: f64)
 }
 
 // The reflection of a tail whose norm is not below MIN_POSITIVE.
+#[tactic(auto, unfolding(model::specs::Householder::reflect_tail))]
 fn reflect_tail(head: f64, tail_norm: f64, tail: &mut [f64]) -> Reflection
     ensures { reflection result tail.new ≡ Householder.reflect_tail binary64 head tail_norm tail.old }
 {
@@ -64,6 +67,7 @@ fn reflect_tail(head: f64, tail_norm: f64, tail: &mut [f64]) -> Reflection
 
 // The reflection that takes the head and a tail of any length to (head, 0 ..): the new head, tau
 // and the rest, and the tail in place.
+#[tactic(auto, unfolding(model::specs::Householder::make_householder, model::specs::Householder::reflect_nothing))]
 pub fn make_householder(head: f64, tail: &mut [f64]) -> Reflection
     ensures { reflection result tail.new ≡ Householder.make_householder binary64 head tail.old }
 {
@@ -89,6 +93,7 @@ fn tail_fits(len: usize) -> bool
 }
 
 // The same of a tail that has 1 to 64 numbers. Any other is turned away, and stays.
+#[tactic(auto, unfolding(model::specs::Householder::make_householder_in_place, model::specs::Householder::tail_turned_away))]
 pub fn make_householder_in_place(head: f64, tail: &mut [f64]) -> Result<Reflection, Refusal>
     ensures { reflected result tail.new ≡ Householder.make_householder_in_place binary64 head tail.old }
 {

@@ -49,6 +49,7 @@ impl Numbers {
     }
 
     // The larger magnitude, kept within MIN_POSITIVE and its reciprocal.
+    #[tactic(auto, unfolding(model::specs::Jacobi::rotg_scale))]
     fn scale(self) -> f64
         ensures { result ≡ Jacobi.rotg_scale binary64 self.p self.q }
     {
@@ -56,6 +57,7 @@ impl Numbers {
     }
 
     // The root of p * p + q * q, worked at that scale.
+    #[tactic(auto, unfolding(model::specs::Jacobi::rotg_norm))]
     fn norm(self) -> f64
         ensures { result ≡ Jacobi.rotg_norm binary64 self.p self.q }
     {
@@ -64,6 +66,7 @@ impl Numbers {
     }
 
     // The number that is larger in magnitude, q at a tie.
+    #[tactic(auto, unfolding(model::specs::Jacobi::rotg_larger))]
     fn larger(self) -> f64
         ensures { result ≡ Jacobi.rotg_larger self.p self.q }
     {
@@ -75,6 +78,7 @@ impl Numbers {
     }
 
     // That root with the sign of the larger number.
+    #[tactic(auto, unfolding(model::specs::Jacobi::rotg_signed))]
     fn signed(self) -> f64
         ensures { result ≡ Jacobi.rotg_signed binary64 self.p self.q }
     {
@@ -84,6 +88,7 @@ impl Numbers {
 }
 
 // The rotation that makes (r, 0) of (p, q).
+#[tactic(auto, unfolding(model::specs::Jacobi::rotg))]
 pub fn rotg(p: f64, q: f64) -> RotationWith
     ensures { rotation_with result ≡ Jacobi.rotg binary64 p q }
 {
@@ -109,6 +114,7 @@ pub fn rotg(p: f64, q: f64) -> RotationWith
 }
 
 // The rotation back: s negated, a zero's sign too.
+#[tactic(auto, unfolding(model::specs::Jacobi::adjoint))]
 pub fn adjoint(rot: JacobiRotation) -> JacobiRotation
     ensures { rotation result ≡ Jacobi.adjoint (rotation rot) }
 {
@@ -119,6 +125,7 @@ pub fn adjoint(rot: JacobiRotation) -> JacobiRotation
 }
 
 // The pair x, y with the rotation applied on the right.
+#[tactic(auto, unfolding(model::specs::Jacobi::apply_right))]
 pub fn apply_on_the_right(rot: JacobiRotation, x: f64, y: f64) -> Pair
     ensures { pair result ≡ Jacobi.apply_right binary64 (rotation rot) x y }
 {
