@@ -45,7 +45,8 @@ pub fn mul_pow2(x: f64, p: f64) -> f64
     x * p
 }
 
-// p where p > q or q is a NaN, else q.
+// p where p > q or q is a NaN, else q. Beside fmin: one function of both would take the comparison, which is all
+// that they have.
 #[tactic(auto, unfolding(model::specs::Arith::fmax))]
 pub fn fmax(p: f64, q: f64) -> f64
     ensures { result ≡ Arith.fmax p q }

@@ -41,7 +41,8 @@ pub struct Standardised {
     pub eigenvalues: Eigenvalues,
 }
 
-// The four numbers as they came, in rows (a, b) and (c, d).
+// The four numbers as they came, in rows (a, b) and (c, d). Contracts name them one by one, as the definitions of
+// model take them.
 #[derive(Clone, Copy)]
 struct Entries {
     a: f64,

@@ -23,9 +23,9 @@ struct Pivot {
     col: usize,
 }
 
-// The system t * x = b of four rows, and its least pivot, which goes through its steps by value, as document 01
-// asks of t. A step or a place is a bare number below
-// 4, as the loops below count it: as a struct it would be made anew at each turn of each loop.
+// The system t * x = b of four rows, and its least pivot. It goes through its steps by value, as document 01 asks
+// of t. A step or a place is a number below 4, as `for` gives it: a struct with the bound in it would have to be
+// made of that number at each turn.
 #[derive(Clone, Copy)]
 struct System {
     t: [[f64; 4]; 4],
