@@ -16,9 +16,6 @@ use Rattle.form.specs.Shaped.{Holds, Beside}
 pub one_less : {k : ℕ} → 0 < k → k ≡ suc (k - 1)
 one_less {k} h = omega arith
 
-pub none_left : {k : ℕ} → k ≤ 0 → k ≡ 0
-none_left {k} h = omega arith
-
 once : (step k : ℕ) → 0 < k → step ≤ step * k
 once step (suc k) h = omega arith
 once step zero h = absurd (omega arith)
@@ -61,10 +58,6 @@ cols s {x} {k} {p} {t} w h g e =
     let q = square s in
     let m : s.ld * suc x ≤ s.ld * s.n = mul-le-mul_left s.ld h in
     record { inside = omega arith; short = omega arith; near = lit≤ tt }
-
--- a factor that is there, beside a form
-pub present : (s : Shape) {u : List Float} → Beside s u → (length u ≡ 0 → ⊥) → Holds s u
-present s b k = ⊎_elim (λ e. absurd (k e)) (λ e. e) b.either
 
 pub still : (s : Shape) {u v : List Float} → Beside s u → length v ≡ length u → Beside s v
 still s b e = record { either = ⊎_elim (λ h. inl (e ∙ h)) (λ h. inr (e ∙ h)) b.either }

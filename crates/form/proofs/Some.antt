@@ -48,16 +48,6 @@ fails (suc n) p e k h = pick (eq-or-lt_of_le (le_of_suc-le-suc h)) (fails n p (n
 pub found : (n : ℕ) (p : ℕ → Bool) (k : ℕ) → k < n → p k ≡ true → some n p ≡ true
 found n p k h e = settled (some n p) (λ z. true≢false (sym e ∙ fails n p z k h))
 
--- ---- two at a time
-pub two-more : (j : ℕ) (p : ℕ → Bool) → some j p ≡ false → p j ≡ false → p (j + 1) ≡ false → some (j + 2) p ≡ false
-unfolding some
-two-more j p a b d =
-    let e : j + 2 ≡ suc (suc j) = omega arith in
-    rw (e, a, b) (rw add-one at d)
-
-pub one_of_two : (n j : ℕ) (p : ℕ → Bool) → j + 1 < n → (p j || p (j + 1)) ≡ true → some n p ≡ true
-one_of_two n j p h e = settled (some n p) (λ z. true≢false (sym e ∙ rw (fails n p z j (omega arith), fails n p z (j + 1) h)))
-
 -- ---- numbers of a part of a list
 pub same_each : (n : ℕ) (p q : ℕ → Bool) → ((k : ℕ) → k < n → p k ≡ q k) → some n p ≡ some n q
 unfolding some

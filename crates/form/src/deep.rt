@@ -118,6 +118,7 @@ fn touching(s: Shape, t: &[f64]) -> bool
 }
 
 // Whether t is quasi-triangular: line 5 or 6, the first that applies.
+#[tactic(auto, unfolding(crate::specs::Lines::shape_line))]
 pub fn quasi_triangular(s: Shape, t: &[f64]) -> Result<(), Refusal>
     requires { Holds s t.now }
     ensures { answer result ≡ shape_line s.ld s.n t.now }

@@ -53,6 +53,7 @@ fn sizes_fit(n1: usize, n2: usize) -> bool
 }
 
 // Line 10: a 2-block lies across an edge.
+#[tactic(auto, unfolding(model::specs::Exchange::line10))]
 fn any_crosses(s: Shape, t: &[f64], j: usize, n1: usize, n2: usize) -> bool
     requires { Holds s t.now × (j + n1 + n2 ≤ 64) }
     ensures { result ≡ Exchange.line10 binary64 s.ld s.n t.now j n1 n2 }
