@@ -25,7 +25,7 @@ impl Shape {
     ghost use Rattle.form.specs.Shaped.{Holds, IsOf};
 
     // The shape of the form t, or the first of lines 2, 17 and 3 that applies.
-    #[tactic(auto, using(crate::proofs::Accepted::many, crate::proofs::Accepted::few, crate::proofs::Accepted::out, crate::proofs::Accepted::within), unfolding(crate::specs::Lines::size_line, model::specs::Form::line3))]
+    #[tactic(auto, unfolding(crate::specs::Lines::size_line, model::specs::Form::line2, model::specs::Form::line17, model::specs::Form::line3))]
     pub fn new(n: usize, ld: usize, t: &[f64]) -> Result<Shape, Refusal>
         ensures line { answer result ≡ size_line ld n t.now }
         ensures shape { IfOk result (λ s. IsOf s n ld t.now) }
