@@ -10,7 +10,12 @@ use lib.ListN.{length, take, drop}
 use lib.Ieee.{Float, nan}
 use mathlib.Core.List.{List, [], ◌∷◌}
 use Rattle.std.proofs.lemmas.Simd.{none_from_empty_mask, get_or-chunk, length-chunk}
-use Rattle.std.proofs.Common.{map, zero-add}
+use Rattle.std.proofs.Common.{map, zero-add, get_or}
+use Rattle.std.proofs.Math.Seq.{take-length}
+use Rattle.std.specs.List.{list_any, fold, range_with_len}
+use Rattle.std.proofs.lemmas.List.Folds.{list_any_more}
+use Rattle.std.proofs.lemmas.List.Sums.{fold_more}
+use Rattle.std.proofs.lemmas.List.FromFn.{length-range_with_len, get_or-range_with_len}
 use lib.Lanes.{mask_l, chunk}
 use lib.Dec.{eqb}
 use borrow.Author.Tests.{eqb-true, not-false}
@@ -48,12 +53,36 @@ fails (suc n) p e k h = pick (eq-or-lt_of_le (le_of_suc-le-suc h)) (fails n p (n
 pub found : (n : ℕ) (p : ℕ → Bool) (k : ℕ) → k < n → p k ≡ true → some n p ≡ true
 found n p k h e = settled (some n p) (λ z. true≢false (sym e ∙ fails n p z k h))
 
--- ---- numbers of a part of a list
+-- ---- along a list or a range, as `any` and `fold` go
+any_to : {X : Type 0} (p : X → Bool) (d : X) (xs : List X) (i : ℕ) → i ≤ length xs → list_any p (take i xs) ≡ some i (λ (k : ℕ). p (get_or xs k d))
+unfolding some
+any_to p d xs zero h = refl
+any_to p d xs (suc i) h = rw (← any_to p d xs i (omega arith)) (rw add-one at (list_any_more p xs i d (omega arith)))
+
+fold_to : {X : Type 0} (p : X → Bool) (d : X) (xs : List X) (i : ℕ) → i ≤ length xs → fold (λ (b : Bool) (x : X). b || p x) false (take i xs) ≡ some i (λ (k : ℕ). p (get_or xs k d))
+unfolding some
+fold_to p d xs zero h = refl
+fold_to {X} p d xs (suc i) h = rw (← fold_to p d xs i (omega arith)) (rw add-one at (fold_more (λ (b : Bool) (x : X). b || p x) false xs i d (omega arith)))
+
 pub same_each : (n : ℕ) (p q : ℕ → Bool) → ((k : ℕ) → k < n → p k ≡ q k) → some n p ≡ some n q
 unfolding some
 same_each zero p q h = refl
 same_each (suc n) p q h = rw (same_each n p q (λ k g. h k (omega arith)), h n (omega arith))
 
+-- of a list and of a range
+pub any_of_list : {X : Type 0} (p : X → Bool) (d : X) (xs : List X) → list_any p xs ≡ some (length xs) (λ (k : ℕ). p (get_or xs k d))
+any_of_list p d xs = rw take-length at (any_to p d xs (length xs) (omega arith))
+
+pub fold_of_list : {X : Type 0} (p : X → Bool) (d : X) (xs : List X) → fold (λ (b : Bool) (x : X). b || p x) false xs ≡ some (length xs) (λ (k : ℕ). p (get_or xs k d))
+fold_of_list p d xs = rw take-length at (fold_to p d xs (length xs) (omega arith))
+
+pub any_of_range : (p : ℕ → Bool) (n : ℕ) → list_any p (range_with_len 0 n) ≡ some n p
+any_of_range p n =
+    any_of_list p 0 (range_with_len 0 n)
+    ∙ rw (length-range_with_len 0 n)
+    (same_each n (λ (k : ℕ). p (get_or (range_with_len 0 n) k 0)) p (λ k h. ap p (get_or-range_with_len 0 n k 0 h ∙ zero-add k)))
+
+-- ---- numbers of a part of a list
 pub in_part : (t : List Float) (p k : ℕ) (f : Float → Bool) → p + k ≤ length t → some (length (take (p + k - p) (drop p t))) (λ (i : ℕ). f (at (take (p + k - p) (drop p t)) i)) ≡ some k (λ (i : ℕ). f (at t (p + i)))
 in_part t p k f h =
     let e : p + k - p ≡ k = omega arith in

@@ -18,11 +18,7 @@ use std::simd::Simd;
 fn any_nonzero(xs: &[f64]) -> bool
     ensures { result ≡ some (length xs.now) (λ (k : ℕ). ne (at xs.now k) (of_bits binary64 0)) }
 {
-    let mut seen = false;
-    for x in xs {
-        seen |= *x != 0.0;
-    }
-    seen
+    xs.iter().fold(false, |seen, x| seen | (*x != 0.0))
 }
 
 // The same of the first N numbers, all compared at once: the compiler fences off each float that is compared, so
@@ -36,7 +32,8 @@ fn any_of_first<const N: usize>(xs: &[f64]) -> bool
 }
 
 // Whether one of `count` columns, ld places apart, has a number that is not zero in the ROWS rows from
-// place p on.
+// place p on. A loop: a closure in a function with a const parameter would have to say anew, as a `requires` of
+// its own, what this one asks for.
 fn any_in_columns<const ROWS: usize>(ld: usize, t: &[f64], p: usize, count: usize) -> bool
     requires { (p + ROWS ≤ ld) × (ROWS ≤ 64) × (ld * count ≤ length t.now) }
     ensures { result ≡ some count (λ (j : ℕ). some ROWS (λ (k : ℕ). ne (at t.now (p + ld * j + k)) (of_bits binary64 0))) }
@@ -50,7 +47,8 @@ fn any_in_columns<const ROWS: usize>(ld: usize, t: &[f64], p: usize, count: usiz
 }
 
 // The same in a corner of `rows` rows: the first column has one number less, from place p on, and each
-// further one begins a row lower.
+// further one begins a row lower. A loop that goes to the end: by `any`, which leaves at the first column found,
+// the check took a fifth longer at 9 to 32 rows.
 fn any_in_corner(ld: usize, t: &[f64], p: usize, rows: usize) -> bool
     requires { (1 ≤ rows) × (rows ≤ ld) × (p + ld * rows ≤ length t.now) }
     ensures { result ≡ some (rows - 1) (λ (j : ℕ). some (rows - 1 - j) (λ (k : ℕ). ne (at t.now (p + (ld + 1) * j + k)) (of_bits binary64 0))) }
@@ -74,7 +72,8 @@ fn deep_rows<const ROWS: usize>(ld: usize, t: &[f64], top: usize) -> bool
 }
 
 // Looks for such a number from the last of the first `rows` rows up, ROWS rows at a time, while more than ROWS
-// are left, and gives the rows that are left. The first two rows have none.
+// are left, and gives the rows that are left. The first two rows have none. No `for`: a range has no steps of
+// ROWS down to a number that is itself handed on.
 fn none_deep<const ROWS: usize>(s: Shape, t: &[f64], rows: usize) -> Result<usize, Refusal>
     requires { Holds s t.now × (1 ≤ ROWS) × (ROWS ≤ 64) × (rows ≤ s.n) }
     ensures { MatchResult result
@@ -109,12 +108,7 @@ fn touching(s: Shape, t: &[f64]) -> bool
     requires { Holds s t.now }
     ensures { result ≡ Form.line6 binary64 s.ld s.n t.now }
 {
-    for j in 0..s.n.saturating_sub(2) {
-        if s.nonzero_below(t, j) & s.nonzero_below(t, j + 1) {
-            return true;
-        }
-    }
-    false
+    (0..s.n.saturating_sub(2)).any(|j| s.nonzero_below(t, j) & s.nonzero_below(t, j + 1))
 }
 
 // Whether t is quasi-triangular: line 5 or 6, the first that applies.
