@@ -83,13 +83,13 @@ any_of_range p n =
     (same_each n (λ (k : ℕ). p (get_or (range_with_len 0 n) k 0)) p (λ k h. ap p (get_or-range_with_len 0 n k 0 h ∙ zero-add k)))
 
 -- ---- numbers of a part of a list
-pub in_part : (t : List Float) (p k : ℕ) (f : Float → Bool) → p + k ≤ length t → some (length (take (p + k - p) (drop p t))) (λ (i : ℕ). f (at (take (p + k - p) (drop p t)) i)) ≡ some k (λ (i : ℕ). f (at t (p + i)))
-in_part t p k f h =
+pub in_part : (t : List Float) (p k : ℕ) (q : ℕ → ℕ) (f : Float → Bool) → p + k ≤ length t → ((i : ℕ) → p + i ≡ q i) → some (length (take (p + k - p) (drop p t))) (λ (i : ℕ). f (at (take (p + k - p) (drop p t)) i)) ≡ some k (λ (i : ℕ). f (at t (q i)))
+in_part t p k q f h w =
     let e : p + k - p ≡ k = omega arith in
     let l : k ≤ length t - p = omega arith in
     rw (e, length-take-le k (drop p t) (rw (length-drop p t) l))
-    (same_each k (λ (i : ℕ). f (at (take k (drop p t)) i)) (λ (i : ℕ). f (at t (p + i)))
-    (λ i g. ap f (get_or-take k (drop p t) i nan g ∙ get_or-drop p t i nan)))
+    (same_each k (λ (i : ℕ). f (at (take k (drop p t)) i)) (λ (i : ℕ). f (at t (q i)))
+    (λ i g. ap f (get_or-take k (drop p t) i nan g ∙ get_or-drop p t i nan ∙ ap (at t) (w i))))
 
 -- ---- numbers compared at once: the mask of the lanes that pass
 empty_mask : (p : Float → Bool) (xs : List Float) → ((k : ℕ) → k < length xs → p (at xs k) ≡ false) → mask_l (map p xs) ≡ 0
@@ -108,7 +108,7 @@ seen_at_once p xs n h =
     below : (k : ℕ) → k < length (chunk 0 n xs) → k < n
     below k g = rw (length-chunk 0 n xs (omega arith)) at g
 
-pub from_place : (t : List Float) (p n : ℕ) (f : Float → Bool) → p + n ≤ length t → some n (λ (k : ℕ). f (at (take (length t - p) (drop p t)) k)) ≡ some n (λ (k : ℕ). f (at t (p + k)))
-from_place t p n f h =
-    same_each n (λ (k : ℕ). f (at (take (length t - p) (drop p t)) k)) (λ (k : ℕ). f (at t (p + k)))
-    (λ k g. ap f (get_or-take (length t - p) (drop p t) k nan (omega arith) ∙ get_or-drop p t k nan))
+pub from_place : (t : List Float) (p n : ℕ) (q : ℕ → ℕ) (f : Float → Bool) → p + n ≤ length t → ((i : ℕ) → p + i ≡ q i) → some n (λ (k : ℕ). f (at (take (length t - p) (drop p t)) k)) ≡ some n (λ (k : ℕ). f (at t (q k)))
+from_place t p n q f h w =
+    same_each n (λ (k : ℕ). f (at (take (length t - p) (drop p t)) k)) (λ (k : ℕ). f (at t (q k)))
+    (λ k g. ap f (get_or-take (length t - p) (drop p t) k nan (omega arith) ∙ get_or-drop p t k nan ∙ ap (at t) (w k)))
