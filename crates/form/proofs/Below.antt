@@ -79,7 +79,7 @@ module _ (ld : ℕ) (t : List Float) where
       second =
           all_fail (rows - 1) (λ (m : ℕ). some (rows - 1 - m) (λ (l : ℕ). nonzero (top + 1 + m + l + ld * (top - 1 + m))))
           (λ e a. all_fail (rows - 1 - e) (λ (l : ℕ). nonzero (top + 1 + e + l + ld * (top - 1 + e)))
-          (λ k b. (h (top + 1 + e + k) (top - 1 + e) (omega arith) (omega arith) (omega arith))))
+          (λ k b. h (top + 1 + e + k) (top - 1 + e) (omega arith) (omega arith) (omega arith)))
 
   pub by_parts : (top rows : ℕ) → 1 ≤ top → deep_rows top rows ≡ parts top rows
   by_parts top rows one =

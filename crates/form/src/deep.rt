@@ -31,9 +31,9 @@ fn any_of_first<const N: usize>(xs: &[f64]) -> bool
     x.simd_ne(Simd::splat(0.0)).any()
 }
 
-// Whether one of the first `count` columns has a number that is not zero in the ROWS rows from
-// row p on. A loop: a closure in a function with a const parameter would have to say anew, as a `requires` of
-// its own, what this one asks for.
+// Whether one of the first `count` columns has a number that is not zero in the ROWS rows from row p on. A loop: a
+// closure in a function with a const parameter would have to say anew, as a `requires` of its own, what this one
+// asks for.
 fn any_in_columns<const ROWS: usize>(s: Shape, t: &[f64], p: usize, count: usize) -> bool
     requires { Holds s t.now × (p + ROWS ≤ s.n) × (count ≤ s.n) }
     ensures { result ≡ some count (λ (j : ℕ). some ROWS (λ (k : ℕ). ne (entry s.ld t.now (p + k) j) (of_bits binary64 0))) }
@@ -46,8 +46,8 @@ fn any_in_columns<const ROWS: usize>(s: Shape, t: &[f64], p: usize, count: usize
     false
 }
 
-// The same in a corner, the ends of the columns from top - 1 on in the `rows` rows from row `top` on: the first
-// has one number less than there are rows, and each further one begins a row lower. A loop to the end: by `any`, which has a branch at each of these short
+// The same in the corner of `rows` rows from row `top` on: column top - 1 has one number less than there are rows,
+// and each further one begins a row lower. A loop to the end: by `any`, which has a branch at each of these short
 // columns, the check took 1.2 to 1.6 times as long at 9 and 12 rows.
 fn any_in_corner(s: Shape, t: &[f64], top: usize, rows: usize) -> bool
     requires { Holds s t.now × (1 ≤ top) × (1 ≤ rows) × (top + rows ≤ s.n) }
