@@ -1,13 +1,10 @@
 -- The lines of a form, a move and an exchange by the tests that the code makes. Assumes nothing.
 use mathlib.Core.Path.{◌≡◌, refl, sym, ap, ◌∙◌}
-use mathlib.Core.Logic.{◌⊎◌, inl, inr}
-use Prim.Native.Nat.{ℕ, ◌*◌, ◌≤◌, ◌<◌}
+use Prim.Native.Nat.{ℕ}
 use mathlib.Core.Bool.{Bool, true, false, cond}
 use mathlib.Core.List.{List}
 use lib.Dec.{eqb}
-use lib.ListN.{length}
 use lib.Ieee.{Float, binary64}
-use borrow.Author.Tests.{eq-eqb, ne_eqb, lt-ltb, le-ltb}
 use Rattle.model.specs.Form.{line2, line17, line3, line4, line5, line6, line7}
 use Rattle.model.specs.Exchange.{line8, line9, line10, exchange_line}
 use Rattle.model.specs.Move.{move_line}

@@ -1,6 +1,6 @@
 -- `form::deep::any_in_corner` meets its contract. The invariant: what is seen is what the first j columns have. Assumes nothing.
 use mathlib.Core.Path.{◌≡◌}
-use Prim.Native.Nat.{ℕ, ◌+◌, ◌-◌, ◌*◌}
+use Prim.Native.Nat.{ℕ, ◌+◌, ◌-◌}
 use lib.Ieee.{binary64, ne, of_bits}
 use Rattle.model.specs.Form.{entry, some}
 use Rattle.form.proofs.deep.any_in_corner.Given as goal
