@@ -9,7 +9,8 @@ use lib.Ieee.{Float, binary64, ne, of_bits}
 use borrow.Author.Tests.{ltb-true, ltb-false}
 use Rattle.model.specs.Form.{at, some, deep_in, line5}
 use Rattle.form.specs.Deep.{Clean}
-use Rattle.form.proofs.Some.{neither, settled, same, all_fail, fails}
+use Rattle.std.proofs.lemmas.Bool.{or_parts, true_from_ne_false}
+use Rattle.form.proofs.Some.{same, all_fail, fails}
 
 module _ (ld : ℕ) (t : List Float) where
   abbrev nonzero : ℕ → Bool
@@ -47,7 +48,7 @@ module _ (ld : ℕ) (t : List Float) where
   parts_clean top rows one h i j a b d = pick (ltb j (top - 1)) (ltb-true j (top - 1)) (ltb-false j (top - 1))
     where
       q : (columns top (top - 1) rows ≡ false) × (corner top rows ≡ false)
-      q = neither (columns top (top - 1) rows) (corner top rows) h
+      q = or_parts (columns top (top - 1) rows) (corner top rows) h
 
       in_columns : j < top - 1 → nonzero (i + ld * j) ≡ false
       in_columns g =
@@ -103,7 +104,7 @@ module _ (ld : ℕ) (t : List Float) where
   -- a number that is not zero in some of the rows is one of line 5
   pub line-found : (n top rows : ℕ) → top + rows ≤ n → deep_rows top rows ≡ true → line5 binary64 ld n t ≡ true
   line-found n top rows g e =
-      settled (line5 binary64 ld n t)
+      true_from_ne_false (line5 binary64 ld n t)
       (λ z. true≢false (sym e ∙ rows_clean top rows (λ i j a b d. line_clean n z i j (omega arith) (omega arith) d)))
 
   -- clean rows above clean rows

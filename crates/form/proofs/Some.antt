@@ -13,6 +13,7 @@ use Rattle.std.proofs.lemmas.Simd.{none_from_empty_mask, get_or-chunk, length-ch
 use Rattle.std.proofs.Common.{map, zero-add, get_or}
 use Rattle.std.proofs.Math.Seq.{take-length}
 use Rattle.std.specs.List.{list_any, fold, range_with_len}
+use Rattle.std.proofs.lemmas.Bool.{or_parts, true_from_ne_false}
 use Rattle.std.proofs.lemmas.List.Folds.{list_any_more}
 use Rattle.std.proofs.lemmas.List.Sums.{fold_more}
 use Rattle.std.proofs.lemmas.List.FromFn.{length-range_with_len, get_or-range_with_len}
@@ -21,14 +22,6 @@ use lib.Dec.{eqb}
 use borrow.Author.Tests.{eqb-true, not-false}
 use Rattle.std.proofs.lemmas.List.{get_or-take, get_or-drop, length-drop, length-take-le}
 use Rattle.model.specs.Form.{at, some}
-
-pub neither : (a b : Bool) → (a || b) ≡ false → (a ≡ false) × (b ≡ false)
-neither true b h = absurd (true≢false h)
-neither false b h = (refl, h)
-
-pub settled : (b : Bool) → (b ≡ false → ⊥) → b ≡ true
-settled true h = refl
-settled false h = absurd (h refl)
 
 pub same : (a b : Bool) → (a ≡ false → b ≡ false) → (b ≡ false → a ≡ false) → a ≡ b
 same true true f g = refl
@@ -44,14 +37,14 @@ all_fail (suc n) p h = rw (all_fail n p (λ k g. h k (omega arith)), h n (omega 
 pub fails : (n : ℕ) (p : ℕ → Bool) → some n p ≡ false → (k : ℕ) → k < n → p k ≡ false
 unfolding some
 fails zero p e k h = absurd (omega arith)
-fails (suc n) p e k h = pick (eq-or-lt_of_le (le_of_suc-le-suc h)) (fails n p (neither (some n p) (p n) e).0)
+fails (suc n) p e k h = pick (eq-or-lt_of_le (le_of_suc-le-suc h)) (fails n p (or_parts (some n p) (p n) e).0)
   where
     pick : (k ≡ n) ⊎ (k < n) → ((i : ℕ) → i < n → p i ≡ false) → p k ≡ false
-    pick (inl g) r = ap p g ∙ (neither (some n p) (p n) e).1
+    pick (inl g) r = ap p g ∙ (or_parts (some n p) (p n) e).1
     pick (inr g) r = r k g
 
 pub found : (n : ℕ) (p : ℕ → Bool) (k : ℕ) → k < n → p k ≡ true → some n p ≡ true
-found n p k h e = settled (some n p) (λ z. true≢false (sym e ∙ fails n p z k h))
+found n p k h e = true_from_ne_false (some n p) (λ z. true≢false (sym e ∙ fails n p z k h))
 
 -- ---- along a list or a range, as `any` and `fold` go
 any_to : {X : Type 0} (p : X → Bool) (d : X) (xs : List X) (i : ℕ) → i ≤ length xs → list_any p (take i xs) ≡ some i (λ (k : ℕ). p (get_or xs k d))
