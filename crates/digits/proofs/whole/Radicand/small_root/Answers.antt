@@ -7,6 +7,7 @@ use native.Mathlib.Decide.{dec_le}
 use native.Mathlib.Omega.{arith}
 use Rattle.laws.specs.RootNearest.{IsRoot}
 use Rattle.laws.proofs.WholeRoot.{root_unique, le_root, root_lt}
+use Rattle.digits.proofs.Short.{above_zero}
 use Rattle.digits.proofs.whole.Radicand.small_root.Goals as goal
 
 mean : (x y : ℕ) → 4 * (x * y) ≤ (x + y) * (x + y)
@@ -30,12 +31,8 @@ step-above d r p =
 step-below : (d r : ℕ) → 0 < r → d < r * r → (r + d / r) / 2 < r
 step-below d r p h = let k = (div-lt_iff_lt-mul p).1 h in omega arith
 
-some : (d r : ℕ) → d < r * r → 0 < r
-some d zero h = absurd (omega arith)
-some d (suc r) h = omega arith
-
 pub loop-r-preserved : goal.loop-r-preserved
-loop-r-preserved c = let t = c.loop-r-test.true in let p = some _ _ t in (step-above _ _ p, omega (arith, step-below _ _ p t))
+loop-r-preserved c = let t = c.loop-r-test.true in let p = above_zero _ _ t in (step-above _ _ p, omega (arith, step-below _ _ p t))
 
 pub returns-clause-is : goal.returns-clause-is
 returns-clause-is c = root_unique _ _ (c.loop-r-test.false, c.loop-r.invariant.0)

@@ -8,6 +8,7 @@ use Rattle.model.specs.Root.{root}
 use Rattle.digits.specs.declared.whole.Radicand.{Radicand}
 use Rattle.laws.specs.RootNearest.{IsRoot}
 use Rattle.laws.proofs.WholeRoot.{root_is, root_unique, le_root, root_lt}
+use Rattle.digits.proofs.Short.{above_zero}
 use Rattle.digits.proofs.whole.Radicand.whole_root.Goals as goal
 
 -- what the division gives, and the bounds that keep each step within 64 bits
@@ -39,14 +40,10 @@ module _ (d s q u : ℕ) (p : Parted d s q u) where
   kept : q * q ≤ u * 2 ^ 27 → s * 2 ^ 27 + q ≡ root (d * 2 ^ 54)
   kept t = root_unique (d * 2 ^ 54) (s * 2 ^ 27 + q) (omega arith, omega arith)
 
-  some : (q : ℕ) → u * 2 ^ 27 < q * q → 0 < q
-  some zero h = absurd (omega arith)
-  some (suc q) h = omega arith
-
   lowered : (r : ℕ) → u * 2 ^ 27 < q * q → suc r ≡ s * 2 ^ 27 + q → r ≡ root (d * 2 ^ 54)
   lowered r t e =
       let x : q * q ≤ 2 ^ 27 * 2 ^ 27 = mul-le-mul p.little p.little in
-      let z = some q t in
+      let z = above_zero (u * 2 ^ 27) q t in
       let y : suc r * suc r ≡ (s * 2 ^ 27 + q) * (s * 2 ^ 27 + q) = rw e in
       root_unique (d * 2 ^ 54) r (omega arith, omega arith)
 
