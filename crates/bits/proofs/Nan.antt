@@ -1,10 +1,9 @@
 -- NaNs and their patterns. Assumes nothing.
 use mathlib.Core.Path.{◌≡◌, refl, sym, ◌∙◌}
-use Prim.Native.Nat.{ℕ, ◌*◌}
-use mathlib.Core.Bool.{true, false, true≢false}
-use lib.Dec.{eqb, eqb_refl}
-use lib.Ieee.{Float, nan, inf, fin, binary64, up, down, ne, is_nan, of_bits, nan_bits}
-use lib.Ieee.Bits.{is_true, nan_bits_is}
+use Prim.Native.Nat.{ℕ}
+use mathlib.Core.Bool.{true, true≢false}
+use lib.Ieee.{Float, nan, inf, fin, binary64, is_nan, of_bits, nan_bits}
+use lib.Ieee.Bits.{nan_bits_is}
 
 pub nan_is : (x : Float) → is_nan x ≡ true → x ≡ nan
 unfolding is_nan
@@ -14,12 +13,3 @@ nan_is (fin s m d) h = absurd (true≢false (sym h))
 
 pub word_nan : (w : ℕ) → nan_bits binary64 w ≡ true → of_bits binary64 w ≡ nan
 word_nan w h = nan_is _ (sym (nan_bits_is binary64 w) ∙ h)
-
--- x differs from itself where it is a NaN
-pub itself : (x : Float) → ne x x ≡ is_nan x
-unfolding ne is_nan
-itself nan = refl
-itself (inf true) = refl
-itself (inf false) = refl
-itself (fin true m e) = rw (is_true (eqb (m * up e * down e) (m * up e * down e)) (eqb_refl (m * up e * down e)))
-itself (fin false m e) = rw (is_true (eqb (m * up e * down e) (m * up e * down e)) (eqb_refl (m * up e * down e)))

@@ -21,13 +21,12 @@ pub fn float_of(w: u64) -> f64
     }
 }
 
-// The numbers of all words. By index: of a slice that is filled from another through iter_mut and zip, a proof
-// knows only the length.
+// The numbers of all words. Filled by index: through iter_mut and zip a proof knows only the length of `out`.
 pub fn floats_of(w: &[u64], out: &mut [f64])
     requires { length w.now ≡ length out.old }
     ensures { out.new ≡ map (of_bits binary64) w.now }
 {
-    for i in 0..w.len() {
-        out[i] = float_of(w[i]);
+    for (i, &word) in w.iter().enumerate() {
+        out[i] = float_of(word);
     }
 }

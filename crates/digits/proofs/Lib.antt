@@ -1,4 +1,3 @@
 pub mod Short
-pub mod NoNan
 pub mod Left
 pub mod Lines

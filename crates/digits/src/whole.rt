@@ -62,7 +62,9 @@ impl Radicand {
     // The whole part of the root of the digits. Newton's step, from any r to (r + d / r) / 2, ends no lower
     // than that, and below an r whose square is above d.
     fn small_root(self) -> u64
-        ensures { result ≡ Root.root self.digits }
+        ensures is { result ≡ Root.root self.digits }
+        ensures near { (result * result ≤ self.digits) × (self.digits ≤ result * result + 2 * result) }
+        ensures fits { (2 ^ 26 ≤ result) × (result < 2 ^ 27) }
     {
         let d = self.digits;
         let mut r = 0x800_0000;

@@ -1,6 +1,6 @@
 -- The block above a row, by what lies across the row's upper edge. Assumes nothing.
 use mathlib.Core.Path.{◌≡◌, refl, sym, ◌∙◌}
-use mathlib.Core.Bool.{Bool, true, false, ◌&&◌}
+use mathlib.Core.Bool.{Bool, true, false, ◌&&◌, and-eq-true_iff}
 use mathlib.Core.List.{List}
 use Prim.Native.Nat.{ℕ, zero, suc, ◌+◌, ◌-◌, ◌≤◌, ◌<◌}
 use native.Mathlib.Omega.{arith}
@@ -9,10 +9,6 @@ use lib.Ieee.{Float, binary64}
 use borrow.Author.Tests.{ltb-true, lt-ltb, le-ltb, le-leb, lt-leb}
 use Rattle.model.specs.Form.{two_block, nonzero_below}
 use Rattle.model.specs.Exchange.{crosses}
-
-both : (a b : Bool) → (a && b) ≡ true → a ≡ true
-both true b h = refl
-both false b h = h
 
 module _ (ld n : ℕ) (t : List Float) where
   pub across : (p : ℕ) → p < n → crosses binary64 ld n t p ≡ (ltb 0 p && nonzero_below binary64 ld t (p - 1))
@@ -33,8 +29,8 @@ module _ (ld n : ℕ) (t : List Float) where
 
   pub inside_edge : (e : ℕ) → crosses binary64 ld n t e ≡ true → 0 < e
   unfolding crosses
-  inside_edge e h = ltb-true 0 e (both (ltb 0 e) (two_block binary64 ld n t (e - 1)) h)
+  inside_edge e h = ltb-true 0 e ((and-eq-true_iff (ltb 0 e) (two_block binary64 ld n t (e - 1))).0 h).0
 
   pub inside_block : (j : ℕ) → two_block binary64 ld n t j ≡ true → j + 1 < n
   unfolding two_block
-  inside_block j h = ltb-true (j + 1) n (both (ltb (j + 1) n) (nonzero_below binary64 ld t j) h)
+  inside_block j h = ltb-true (j + 1) n ((and-eq-true_iff (ltb (j + 1) n) (nonzero_below binary64 ld t j)).0 h).0

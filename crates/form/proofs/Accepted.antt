@@ -1,13 +1,10 @@
 -- The lines of a form, a move and an exchange by the tests that the code makes. Assumes nothing.
 use mathlib.Core.Path.{◌≡◌, refl, sym, ap, ◌∙◌}
-use mathlib.Core.Logic.{◌⊎◌, inl, inr}
-use Prim.Native.Nat.{ℕ, ◌*◌, ◌≤◌, ◌<◌}
+use Prim.Native.Nat.{ℕ}
 use mathlib.Core.Bool.{Bool, true, false, cond}
 use mathlib.Core.List.{List}
 use lib.Dec.{eqb}
-use lib.ListN.{length}
 use lib.Ieee.{Float, binary64}
-use borrow.Author.Tests.{eq-eqb, ne_eqb, lt-ltb, le-ltb}
 use Rattle.model.specs.Form.{line2, line17, line3, line4, line5, line6, line7}
 use Rattle.model.specs.Exchange.{line8, line9, line10, exchange_line}
 use Rattle.model.specs.Move.{move_line}
@@ -35,30 +32,6 @@ onward false false false false true b6 rest = refl
 onward false false false false false true rest = refl
 onward false false false false false false rest = refl
 
--- ---- the tests of lines 2, 17 and 7 as the code makes them
-pub many : {n : ℕ} → (n ≡ 0) ⊎ ((n ≡ 0 → ⊥) × (64 < n)) → line2 n ≡ true
-unfolding line2
-many (inl e) = rw (eq-eqb _ _ e)
-many (inr h) = rw (ne_eqb _ _ h.0, lt-ltb _ _ h.1)
-
-pub few : {n : ℕ} → (n ≡ 0 → ⊥) → n ≤ 64 → line2 n ≡ false
-unfolding line2
-few h k = rw (ne_eqb _ _ h, le-ltb _ _ k)
-
-pub out : {ld n : ℕ} → (ld < n) ⊎ ((n ≤ ld) × (128 < ld)) → line17 ld n ≡ true
-unfolding line17
-out (inl h) = rw (lt-ltb _ _ h)
-out (inr h) = rw (le-ltb _ _ h.0, lt-ltb _ _ h.1)
-
-pub within : {ld n : ℕ} → n ≤ ld → ld ≤ 128 → line17 ld n ≡ false
-unfolding line17
-within h k = rw (le-ltb _ _ h, le-ltb _ _ k)
-
-pub beyond : {n from to : ℕ} → (n ≤ from) ⊎ ((from < n) × (n ≤ to)) → ◌≡◌ {A = ℕ} 7 (cond (line7 n from) 7 (cond (line7 n to) 7 0))
-unfolding line7
-beyond (inl h) = rw (le-ltb _ _ h)
-beyond (inr h) = rw (lt-ltb _ _ h.0, le-ltb _ _ h.1)
-
 -- ---- the lines in their order
 module _ (ld n : ℕ) (t : List Float) where
   -- with a further buffer, the lines of sizes are told first
@@ -67,12 +40,6 @@ module _ (ld n : ℕ) (t : List Float) where
   further_first wrong = sizes-first (line2 n) (line17 ld n) (line3 ld n t) (cond wrong 4 (cond (line5 binary64 ld n t) 5 (cond (line6 binary64 ld n t) 6 0)))
 
 module _ (ld n : ℕ) (t u : List Float) where
-  -- line 4 does not apply where the code's test fails
-  pub beside-fits : (((length u ≡ ld * n → ⊥) × (length u ≡ 0)) ⊎ (length u ≡ ld * n)) → line4 ld n u ≡ false
-  unfolding line4
-  beside-fits (inl h) = rw (ne_eqb _ _ h.0, h.1)
-  beside-fits (inr e) = rw (eq-eqb _ _ e)
-
   pub move_on : (from to l : ℕ) → l ≡ further_line ld n t (line4 ld n u) → move_line binary64 ld n t u from to ≡ cond (eqb l 0) (cond (line7 n from) 7 (cond (line7 n to) 7 0)) l
   unfolding move_line further_line
   move_on from to l e =

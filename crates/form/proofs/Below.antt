@@ -9,17 +9,18 @@ use lib.Ieee.{Float, binary64, ne, of_bits}
 use borrow.Author.Tests.{ltb-true, ltb-false}
 use Rattle.model.specs.Form.{at, some, deep_in, line5}
 use Rattle.form.specs.Deep.{Clean}
-use Rattle.form.proofs.Some.{neither, settled, same, all_fail, fails}
+use Rattle.std.proofs.lemmas.Bool.{or_parts, true_from_ne_false}
+use Rattle.form.proofs.Some.{same, all_fail, fails}
 
 module _ (ld : ℕ) (t : List Float) where
   abbrev nonzero : ℕ → Bool
   nonzero p = ne (at t p) (of_bits binary64 0)
 
   abbrev pub columns : ℕ → ℕ → ℕ → Bool
-  columns p count rows = some count (λ (j : ℕ). some rows (λ (k : ℕ). nonzero (p + ld * j + k)))
+  columns p count rows = some count (λ (j : ℕ). some rows (λ (k : ℕ). nonzero (p + k + ld * j)))
 
   abbrev pub corner : ℕ → ℕ → Bool
-  corner p rows = some (rows - 1) (λ (j : ℕ). some (rows - 1 - j) (λ (k : ℕ). nonzero (p + (ld + 1) * j + k)))
+  corner top rows = some (rows - 1) (λ (j : ℕ). some (rows - 1 - j) (λ (k : ℕ). nonzero (top + 1 + j + k + ld * (top - 1 + j))))
 
   abbrev pub deep_rows : ℕ → ℕ → Bool
   deep_rows top rows = some rows (λ (i : ℕ). some (top + i - 1) (λ (j : ℕ). nonzero (top + i + ld * j)))
@@ -41,29 +42,26 @@ module _ (ld : ℕ) (t : List Float) where
 
   -- whole columns and the corner
   abbrev parts : ℕ → ℕ → Bool
-  parts top rows = columns top (top - 1) rows || corner (top + 1 + ld * (top - 1)) rows
+  parts top rows = columns top (top - 1) rows || corner top rows
 
   parts_clean : (top rows : ℕ) → 1 ≤ top → parts top rows ≡ false → Clean ld t top (top + rows)
   parts_clean top rows one h i j a b d = pick (ltb j (top - 1)) (ltb-true j (top - 1)) (ltb-false j (top - 1))
     where
-      q : (columns top (top - 1) rows ≡ false) × (corner (top + 1 + ld * (top - 1)) rows ≡ false)
-      q = neither (columns top (top - 1) rows) (corner (top + 1 + ld * (top - 1)) rows) h
+      q : (columns top (top - 1) rows ≡ false) × (corner top rows ≡ false)
+      q = or_parts (columns top (top - 1) rows) (corner top rows) h
 
       in_columns : j < top - 1 → nonzero (i + ld * j) ≡ false
       in_columns g =
           moved (omega arith)
-          (fails rows (λ (k : ℕ). nonzero (top + ld * j + k))
-          (fails (top - 1) (λ (m : ℕ). some rows (λ (k : ℕ). nonzero (top + ld * m + k))) q.0 j g)
+          (fails rows (λ (k : ℕ). nonzero (top + k + ld * j))
+          (fails (top - 1) (λ (m : ℕ). some rows (λ (k : ℕ). nonzero (top + k + ld * m))) q.0 j g)
           (i - top) (omega arith))
-
-      place : (e k w : ℕ) → w ≡ top - 1 → j ≡ w + e → i ≡ top + 1 + e + k → i + ld * j ≡ top + 1 + ld * w + (ld + 1) * e + k
-      place e k w x y z = rw (y, z) (omega arith)
 
       in_corner : (e k : ℕ) → j ≡ top - 1 + e → i ≡ top + 1 + e + k → nonzero (i + ld * j) ≡ false
       in_corner e k x y =
-          moved (place e k (top - 1) refl x y)
-          (fails (rows - 1 - e) (λ (l : ℕ). nonzero (top + 1 + ld * (top - 1) + (ld + 1) * e + l))
-          (fails (rows - 1) (λ (m : ℕ). some (rows - 1 - m) (λ (l : ℕ). nonzero (top + 1 + ld * (top - 1) + (ld + 1) * m + l))) q.1 e (omega arith))
+          moved (rw (y, x) refl)
+          (fails (rows - 1 - e) (λ (l : ℕ). nonzero (top + 1 + e + l + ld * (top - 1 + e)))
+          (fails (rows - 1) (λ (m : ℕ). some (rows - 1 - m) (λ (l : ℕ). nonzero (top + 1 + m + l + ld * (top - 1 + m)))) q.1 e (omega arith))
           k (omega arith))
 
       pick : (x : Bool) → (x ≡ true → j < top - 1) → (x ≡ false → top - 1 ≤ j) → nonzero (i + ld * j) ≡ false
@@ -75,17 +73,14 @@ module _ (ld : ℕ) (t : List Float) where
     where
       first : columns top (top - 1) rows ≡ false
       first =
-          all_fail (top - 1) (λ (m : ℕ). some rows (λ (k : ℕ). nonzero (top + ld * m + k)))
-          (λ m a. all_fail rows (λ (k : ℕ). nonzero (top + ld * m + k)) (λ k b. moved (omega arith) (h (top + k) m (omega arith) (omega arith) (omega arith))))
+          all_fail (top - 1) (λ (m : ℕ). some rows (λ (k : ℕ). nonzero (top + k + ld * m)))
+          (λ m a. all_fail rows (λ (k : ℕ). nonzero (top + k + ld * m)) (λ k b. moved (omega arith) (h (top + k) m (omega arith) (omega arith) (omega arith))))
 
-      place : (e k w : ℕ) → top + 1 + ld * w + (ld + 1) * e + k ≡ top + 1 + e + k + ld * (w + e)
-      place e k w = omega arith
-
-      second : corner (top + 1 + ld * (top - 1)) rows ≡ false
+      second : corner top rows ≡ false
       second =
-          all_fail (rows - 1) (λ (m : ℕ). some (rows - 1 - m) (λ (l : ℕ). nonzero (top + 1 + ld * (top - 1) + (ld + 1) * m + l)))
-          (λ e a. all_fail (rows - 1 - e) (λ (l : ℕ). nonzero (top + 1 + ld * (top - 1) + (ld + 1) * e + l))
-          (λ k b. moved (place e k (top - 1)) (h (top + 1 + e + k) (top - 1 + e) (omega arith) (omega arith) (omega arith))))
+          all_fail (rows - 1) (λ (m : ℕ). some (rows - 1 - m) (λ (l : ℕ). nonzero (top + 1 + m + l + ld * (top - 1 + m))))
+          (λ e a. all_fail (rows - 1 - e) (λ (l : ℕ). nonzero (top + 1 + e + l + ld * (top - 1 + e)))
+          (λ k b. h (top + 1 + e + k) (top - 1 + e) (omega arith) (omega arith) (omega arith)))
 
   pub by_parts : (top rows : ℕ) → 1 ≤ top → deep_rows top rows ≡ parts top rows
   by_parts top rows one =
@@ -109,7 +104,7 @@ module _ (ld : ℕ) (t : List Float) where
   -- a number that is not zero in some of the rows is one of line 5
   pub line-found : (n top rows : ℕ) → top + rows ≤ n → deep_rows top rows ≡ true → line5 binary64 ld n t ≡ true
   line-found n top rows g e =
-      settled (line5 binary64 ld n t)
+      true_from_ne_false (line5 binary64 ld n t)
       (λ z. true≢false (sym e ∙ rows_clean top rows (λ i j a b d. line_clean n z i j (omega arith) (omega arith) d)))
 
   -- clean rows above clean rows

@@ -10,20 +10,18 @@ use lib.ListN.{length, take, drop}
 use lib.Ieee.{Float, nan}
 use mathlib.Core.List.{List, [], ◌∷◌}
 use Rattle.std.proofs.lemmas.Simd.{none_from_empty_mask, get_or-chunk, length-chunk}
-use Rattle.std.proofs.Common.{map, zero-add}
+use Rattle.std.proofs.Common.{map, zero-add, get_or}
+use Rattle.std.proofs.Math.Seq.{take-length}
+use Rattle.std.specs.List.{list_any, fold, range_with_len}
+use Rattle.std.proofs.lemmas.Bool.{or_parts, true_from_ne_false}
+use Rattle.std.proofs.lemmas.List.Folds.{list_any_more}
+use Rattle.std.proofs.lemmas.List.Sums.{fold_more}
+use Rattle.std.proofs.lemmas.List.FromFn.{length-range_with_len, get_or-range_with_len}
 use lib.Lanes.{mask_l, chunk}
 use lib.Dec.{eqb}
 use borrow.Author.Tests.{eqb-true, not-false}
 use Rattle.std.proofs.lemmas.List.{get_or-take, get_or-drop, length-drop, length-take-le}
 use Rattle.model.specs.Form.{at, some}
-
-pub neither : (a b : Bool) → (a || b) ≡ false → (a ≡ false) × (b ≡ false)
-neither true b h = absurd (true≢false h)
-neither false b h = (refl, h)
-
-pub settled : (b : Bool) → (b ≡ false → ⊥) → b ≡ true
-settled true h = refl
-settled false h = absurd (h refl)
 
 pub same : (a b : Bool) → (a ≡ false → b ≡ false) → (b ≡ false → a ≡ false) → a ≡ b
 same true true f g = refl
@@ -39,38 +37,52 @@ all_fail (suc n) p h = rw (all_fail n p (λ k g. h k (omega arith)), h n (omega 
 pub fails : (n : ℕ) (p : ℕ → Bool) → some n p ≡ false → (k : ℕ) → k < n → p k ≡ false
 unfolding some
 fails zero p e k h = absurd (omega arith)
-fails (suc n) p e k h = pick (eq-or-lt_of_le (le_of_suc-le-suc h)) (fails n p (neither (some n p) (p n) e).0)
+fails (suc n) p e k h = pick (eq-or-lt_of_le (le_of_suc-le-suc h)) (fails n p (or_parts (some n p) (p n) e).0)
   where
     pick : (k ≡ n) ⊎ (k < n) → ((i : ℕ) → i < n → p i ≡ false) → p k ≡ false
-    pick (inl g) r = ap p g ∙ (neither (some n p) (p n) e).1
+    pick (inl g) r = ap p g ∙ (or_parts (some n p) (p n) e).1
     pick (inr g) r = r k g
 
 pub found : (n : ℕ) (p : ℕ → Bool) (k : ℕ) → k < n → p k ≡ true → some n p ≡ true
-found n p k h e = settled (some n p) (λ z. true≢false (sym e ∙ fails n p z k h))
+found n p k h e = true_from_ne_false (some n p) (λ z. true≢false (sym e ∙ fails n p z k h))
 
--- ---- two at a time
-pub two-more : (j : ℕ) (p : ℕ → Bool) → some j p ≡ false → p j ≡ false → p (j + 1) ≡ false → some (j + 2) p ≡ false
+-- ---- along a list or a range, as `any` and `fold` go
+any_to : {X : Type 0} (p : X → Bool) (d : X) (xs : List X) (i : ℕ) → i ≤ length xs → list_any p (take i xs) ≡ some i (λ (k : ℕ). p (get_or xs k d))
 unfolding some
-two-more j p a b d =
-    let e : j + 2 ≡ suc (suc j) = omega arith in
-    rw (e, a, b) (rw add-one at d)
+any_to p d xs zero h = refl
+any_to p d xs (suc i) h = rw (← any_to p d xs i (omega arith)) (rw add-one at (list_any_more p xs i d (omega arith)))
 
-pub one_of_two : (n j : ℕ) (p : ℕ → Bool) → j + 1 < n → (p j || p (j + 1)) ≡ true → some n p ≡ true
-one_of_two n j p h e = settled (some n p) (λ z. true≢false (sym e ∙ rw (fails n p z j (omega arith), fails n p z (j + 1) h)))
+fold_to : {X : Type 0} (p : X → Bool) (d : X) (xs : List X) (i : ℕ) → i ≤ length xs → fold (λ (b : Bool) (x : X). b || p x) false (take i xs) ≡ some i (λ (k : ℕ). p (get_or xs k d))
+unfolding some
+fold_to p d xs zero h = refl
+fold_to {X} p d xs (suc i) h = rw (← fold_to p d xs i (omega arith)) (rw add-one at (fold_more (λ (b : Bool) (x : X). b || p x) false xs i d (omega arith)))
 
--- ---- numbers of a part of a list
 pub same_each : (n : ℕ) (p q : ℕ → Bool) → ((k : ℕ) → k < n → p k ≡ q k) → some n p ≡ some n q
 unfolding some
 same_each zero p q h = refl
 same_each (suc n) p q h = rw (same_each n p q (λ k g. h k (omega arith)), h n (omega arith))
 
-pub in_part : (t : List Float) (p k : ℕ) (f : Float → Bool) → p + k ≤ length t → some (length (take (p + k - p) (drop p t))) (λ (i : ℕ). f (at (take (p + k - p) (drop p t)) i)) ≡ some k (λ (i : ℕ). f (at t (p + i)))
-in_part t p k f h =
+-- of a list and of a range
+pub any_of_list : {X : Type 0} (p : X → Bool) (d : X) (xs : List X) → list_any p xs ≡ some (length xs) (λ (k : ℕ). p (get_or xs k d))
+any_of_list p d xs = rw take-length at (any_to p d xs (length xs) (omega arith))
+
+pub fold_of_list : {X : Type 0} (p : X → Bool) (d : X) (xs : List X) → fold (λ (b : Bool) (x : X). b || p x) false xs ≡ some (length xs) (λ (k : ℕ). p (get_or xs k d))
+fold_of_list p d xs = rw take-length at (fold_to p d xs (length xs) (omega arith))
+
+pub any_of_range : (p : ℕ → Bool) (n : ℕ) → list_any p (range_with_len 0 n) ≡ some n p
+any_of_range p n =
+    any_of_list p 0 (range_with_len 0 n)
+    ∙ rw (length-range_with_len 0 n)
+    (same_each n (λ (k : ℕ). p (get_or (range_with_len 0 n) k 0)) p (λ k h. ap p (get_or-range_with_len 0 n k 0 h ∙ zero-add k)))
+
+-- ---- numbers of a part of a list
+pub in_part : (t : List Float) (p k : ℕ) (q : ℕ → ℕ) (f : Float → Bool) → p + k ≤ length t → ((i : ℕ) → p + i ≡ q i) → some (length (take (p + k - p) (drop p t))) (λ (i : ℕ). f (at (take (p + k - p) (drop p t)) i)) ≡ some k (λ (i : ℕ). f (at t (q i)))
+in_part t p k q f h w =
     let e : p + k - p ≡ k = omega arith in
     let l : k ≤ length t - p = omega arith in
     rw (e, length-take-le k (drop p t) (rw (length-drop p t) l))
-    (same_each k (λ (i : ℕ). f (at (take k (drop p t)) i)) (λ (i : ℕ). f (at t (p + i)))
-    (λ i g. ap f (get_or-take k (drop p t) i nan g ∙ get_or-drop p t i nan)))
+    (same_each k (λ (i : ℕ). f (at (take k (drop p t)) i)) (λ (i : ℕ). f (at t (q i)))
+    (λ i g. ap f (get_or-take k (drop p t) i nan g ∙ get_or-drop p t i nan ∙ ap (at t) (w i))))
 
 -- ---- numbers compared at once: the mask of the lanes that pass
 empty_mask : (p : Float → Bool) (xs : List Float) → ((k : ℕ) → k < length xs → p (at xs k) ≡ false) → mask_l (map p xs) ≡ 0
@@ -89,7 +101,7 @@ seen_at_once p xs n h =
     below : (k : ℕ) → k < length (chunk 0 n xs) → k < n
     below k g = rw (length-chunk 0 n xs (omega arith)) at g
 
-pub from_place : (t : List Float) (p n : ℕ) (f : Float → Bool) → p + n ≤ length t → some n (λ (k : ℕ). f (at (take (length t - p) (drop p t)) k)) ≡ some n (λ (k : ℕ). f (at t (p + k)))
-from_place t p n f h =
-    same_each n (λ (k : ℕ). f (at (take (length t - p) (drop p t)) k)) (λ (k : ℕ). f (at t (p + k)))
-    (λ k g. ap f (get_or-take (length t - p) (drop p t) k nan (omega arith) ∙ get_or-drop p t k nan))
+pub from_place : (t : List Float) (p n : ℕ) (q : ℕ → ℕ) (f : Float → Bool) → p + n ≤ length t → ((i : ℕ) → p + i ≡ q i) → some n (λ (k : ℕ). f (at (take (length t - p) (drop p t)) k)) ≡ some n (λ (k : ℕ). f (at t (q k)))
+from_place t p n q f h w =
+    same_each n (λ (k : ℕ). f (at (take (length t - p) (drop p t)) k)) (λ (k : ℕ). f (at t (q k)))
+    (λ k g. ap f (get_or-take (length t - p) (drop p t) k nan (omega arith) ∙ get_or-drop p t k nan ∙ ap (at t) (w k)))

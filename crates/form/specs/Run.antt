@@ -1,11 +1,5 @@
--- Runs of places inside a list. Assumes nothing.
-use Rattle.std.specs.Prelude.{◌≡◌, ◌⊎◌, ℕ, ◌+◌, ◌*◌, ◌≤◌, ◌<◌, List, length, Float}
-
--- the k places p, p + step, .. are inside the list
-pub record Run (step k p : ℕ) (t : List Float) : Type 0 where
-  pub inside : p + step * k < length t + step
-  pub short : length t ≤ 8192
-  pub near : step ≤ 128
+-- A factor beside a form, and the rows of an exchange. Definitions only. Assumes nothing.
+use Rattle.std.specs.Prelude.{◌≡◌, ◌⊎◌, ℕ, ◌+◌, ◌*◌, ◌≤◌, List, length, Float}
 
 -- a factor beside it, or none
 pub record Beside (ld n : ℕ) (u : List Float) : Type 0 where

@@ -14,6 +14,7 @@ use crate::shape::Shape;
 use refusal::Refusal;
 
 // The shape of a form that none of lines 2, 17 and 3 to 6 turns away, nor its factor, or the first that does.
+#[tactic(auto, using(crate::proofs::Accepted::further_first, refusal::proofs::Told::told), unfolding(model::specs::Form::line4))]
 fn accepted(n: usize, ld: usize, t: &[f64], u: &[f64]) -> Result<Shape, Refusal>
     ensures line { answer result ≡ further_line ld n t.now (line4 ld n u.now) }
     ensures shape { IfOk result (λ s. IsOf s n ld t.now × Beside s u.now) }
@@ -27,6 +28,7 @@ fn accepted(n: usize, ld: usize, t: &[f64], u: &[f64]) -> Result<Shape, Refusal>
 }
 
 // The same with line 7 of a move.
+#[tactic(auto, using(crate::proofs::Accepted::move_on, refusal::proofs::Told::told), unfolding(model::specs::Form::line7))]
 pub fn accepted_move(
     n: usize,
     ld: usize,
@@ -53,6 +55,7 @@ fn sizes_fit(n1: usize, n2: usize) -> bool
 }
 
 // Line 10: a 2-block lies across an edge.
+#[tactic(auto, unfolding(model::specs::Exchange::line10))]
 fn any_crosses(s: Shape, t: &[f64], j: usize, n1: usize, n2: usize) -> bool
     requires { Holds s t.now × (j + n1 + n2 ≤ 64) }
     ensures { result ≡ Exchange.line10 binary64 s.ld s.n t.now j n1 n2 }
@@ -61,6 +64,7 @@ fn any_crosses(s: Shape, t: &[f64], j: usize, n1: usize, n2: usize) -> bool
 }
 
 // The same with lines 7 to 10 of an exchange.
+#[tactic(auto, using(crate::proofs::Accepted::exchange_on, refusal::proofs::Told::told), unfolding(model::specs::Form::line7, model::specs::Exchange::line8, model::specs::Exchange::line9))]
 pub fn accepted_exchange(
     n: usize,
     ld: usize,

@@ -10,7 +10,8 @@ ghost use Rattle.form.specs.Lines.{size_line};
 
 use refusal::Refusal;
 
-// A form has n rows and columns, ld places from one column to the next.
+// A form has n rows and columns, ld places from one column to the next. Its numbers stand beside it in each call:
+// with them behind a `&mut` in one struct, no ghost field could say how many there are, and most calls are such.
 #[derive(Clone, Copy)]
 pub struct Shape {
     pub n: usize,
@@ -24,6 +25,7 @@ impl Shape {
     ghost use Rattle.form.specs.Shaped.{Holds, IsOf};
 
     // The shape of the form t, or the first of lines 2, 17 and 3 that applies.
+    #[tactic(auto, unfolding(crate::specs::Lines::size_line, model::specs::Form::line2, model::specs::Form::line17, model::specs::Form::line3))]
     pub fn new(n: usize, ld: usize, t: &[f64]) -> Result<Shape, Refusal>
         ensures line { answer result ≡ size_line ld n t.now }
         ensures shape { IfOk result (λ s. IsOf s n ld t.now) }
@@ -46,14 +48,6 @@ impl Shape {
         ensures { (result ≡ i + self.ld * j) × (result + self.ld ≤ i + self.ld * self.n) }
     {
         crate::place(self.ld, self.n, i, j)
-    }
-
-    // Where the rest of row i starts, from column j on: nothing is left of it where j is n.
-    pub fn row_start(self, i: usize, j: usize) -> usize
-        requires { (i < self.n) × (j ≤ self.n) }
-        ensures { (result ≡ i + self.ld * j) × (result + self.ld * (self.n - j) < self.n + self.ld * self.n) }
-    {
-        crate::row_start(self.ld, self.n, i, j)
     }
 
     // The number in row i, column j.
@@ -85,10 +79,11 @@ impl Shape {
         requires { Holds self t.now × (j + 1 < self.n) }
         ensures { result ≡ Form.nonzero_below binary64 self.ld t.now j }
     {
-        self.get(t, j + 1, j) != 0.0
+        !self.zero_below(t, j)
     }
 
     // Whether a 2-block stands in rows j and j + 1.
+    #[tactic(auto, unfolding(model::specs::Form::two_block))]
     pub fn two_block(self, t: &[f64], j: usize) -> bool
         requires { Holds self t.now × (j ≤ 64) }
         ensures { result ≡ Form.two_block binary64 self.ld self.n t.now j }
@@ -97,6 +92,7 @@ impl Shape {
     }
 
     // Whether a 2-block lies across the edge above row e.
+    #[tactic(auto, unfolding(model::specs::Exchange::crosses))]
     pub fn crosses(self, t: &[f64], e: usize) -> bool
         requires { Holds self t.now × (e ≤ 64) }
         ensures { result ≡ Exchange.crosses binary64 self.ld self.n t.now e }
@@ -105,6 +101,7 @@ impl Shape {
     }
 
     // The first row of the block that row p is in.
+    #[tactic(auto, using(crate::proofs::Above::across, crate::proofs::Above::inside_edge), unfolding(model::specs::Move::first_row))]
     pub fn first_row(self, t: &[f64], p: usize) -> usize
         requires { Holds self t.now × (p < self.n) }
         ensures { (result ≡ Move.first_row binary64 self.ld t.now p) × (result ≤ p) }
@@ -113,6 +110,7 @@ impl Shape {
     }
 
     // The size of the block that begins in row p.
+    #[tactic(auto, using(crate::proofs::Above::inside_block), unfolding(model::specs::Move::size_at))]
     pub fn size_at(self, t: &[f64], p: usize) -> usize
         requires { Holds self t.now × (p < self.n) }
         ensures { (result ≡ Move.size_at binary64 self.ld self.n t.now p) × (1 ≤ result) × (result ≤ 2) × (p + result ≤ self.n) }
@@ -121,6 +119,7 @@ impl Shape {
     }
 
     // The size of the block that ends above row p.
+    #[tactic(auto, using(crate::proofs::Above::across_above, crate::proofs::Above::inside_edge), unfolding(model::specs::Move::size_above))]
     pub fn size_above(self, t: &[f64], p: usize) -> usize
         requires { Holds self t.now × (0 < p) × (p ≤ self.n) }
         ensures { (result ≡ Move.size_above binary64 self.ld t.now p) × (1 ≤ result) × (result ≤ 2) × (result ≤ p) }
@@ -129,8 +128,10 @@ impl Shape {
     }
 }
 
-// Going down, the block stops with its last row where the last row of the block at `to` is: a 2-block's goal
-// is a row less against a single row, and a single row's a row more against a 2-block.
+// The row that a block of nbf rows has for its goal going down, where a block of nbl rows begins at `to`: the
+// last rows of both are the same row. A 2-block's goal is a row less against a single row, and a single row's a
+// row more against a 2-block.
+#[tactic(auto, unfolding(model::specs::Move::goal_down))]
 pub fn goal_down(nbf: usize, nbl: usize, to: usize) -> usize
     requires { (1 ≤ to) × (to ≤ 64) × (nbf ≤ 2) × (nbl ≤ 2) × (1 ≤ nbf) × (1 ≤ nbl) }
     ensures { (result ≡ Move.goal_down nbf nbl to) × (result + nbf ≤ to + nbl) }

@@ -14,7 +14,7 @@ use Rattle.laws.proofs.Patterns.{at, pattern-value}
 use Rattle.laws.proofs.HalfRoot.{half_root_bits, half_root-infinite, half_short}
 use Rattle.laws.proofs.Cut.{exact_digits, gap_digits}
 use Rattle.digits.specs.Digits.{Significand}
-use Rattle.digits.proofs.NoNan.{no_nan_to}
+use Rattle.std.proofs.lemmas.Float.{not_nan_f64_bits}
 use Rattle.modulus.specs.Modulus.{four_sums}
 
 -- what the code promises of its answer
@@ -28,14 +28,14 @@ modulus-is a b x y ea eb = rw (ea, eb)
 
 -- digits c with h zeros after them, as a pattern
 by_digits : (a b n h c : ℕ) → modulus binary64 (of_bits binary64 a) (of_bits binary64 b) ≡ half_root binary64 n → HalfDigits binary64 n h c → h * 2 ^ 52 + c < 0x7ff0_0000_0000_0000 → IsModulus a b (h * 2 ^ 52 + c)
-by_digits a b n h c e d i = (half_root_bits binary64 n h c d i ∙ sym e, no_nan_to (h * 2 ^ 52 + c) (omega arith))
+by_digits a b n h c e d i = (half_root_bits binary64 n h c d i ∙ sym e, not_nan_f64_bits (h * 2 ^ 52 + c) (omega arith))
 
 infinite_bits : of_bits binary64 0x7ff0_0000_0000_0000 ≡ inf false
 unfolding of_bits
 infinite_bits = refl
 
 past_largest : (a b n h c : ℕ) → modulus binary64 (of_bits binary64 a) (of_bits binary64 b) ≡ half_root binary64 n → HalfDigits binary64 n h c → 0x7ff0_0000_0000_0000 ≤ h * 2 ^ 52 + c → IsModulus a b 0x7ff0_0000_0000_0000
-past_largest a b n h c e d i = (infinite_bits ∙ sym (half_root-infinite binary64 n h c d i) ∙ sym e, no_nan_to 0x7ff0_0000_0000_0000 (omega arith))
+past_largest a b n h c e d i = (infinite_bits ∙ sym (half_root-infinite binary64 n h c d i) ∙ sym e, not_nan_f64_bits 0x7ff0_0000_0000_0000 (omega arith))
 
 -- ---- where the smaller is zero
 pub with_zero : (a : ℕ) → a < 0x7ff0_0000_0000_0000 → IsModulus a 0 a
@@ -79,9 +79,6 @@ module _ {a b x y i j : ℕ} (p : Significand a x i) (q : Significand b y j) (or
         go : (i ≡ 0) ⊎ (0 < i) → i ≡ 0
         go (inl e) = e
         go (inr l) = absurd (omega (arith, p.lead l))
-
-    pub small-order : y ≤ x
-    small-order = omega (arith, none, no_more, p.pattern, q.pattern)
 
     pub subnormal : (c : ℕ) → HalfDigits binary64 (four_sums x y 0 0) 0 c → IsModulus a b c
     subnormal c d =

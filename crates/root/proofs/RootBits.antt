@@ -10,7 +10,7 @@ use Rattle.model.specs.Root.{root, sqrt}
 use Rattle.laws.proofs.WholeRoot.{root_is, le_root}
 use Rattle.laws.proofs.RootByDigits.{root_by_digits}
 use Rattle.digits.proofs.Short.{short}
-use Rattle.digits.proofs.NoNan.{no_nan_to}
+use Rattle.std.proofs.lemmas.Float.{not_nan_f64_bits}
 use Rattle.root.specs.Sqrt.{Parts, Even}
 
 module _ (b digits power d r : ℕ) (some : 0 < b) (finite : b < 0x7ff0_0000_0000_0000) (p : Parts b digits power) (e : Even digits power d) (w : r ≡ root (d * 2 ^ 54)) where
@@ -34,4 +34,4 @@ module _ (b digits power d r : ℕ) (some : 0 < b) (finite : b < 0x7ff0_0000_000
       (omega (arith, p.most, below)))
 
   pub no_nan : T (not (nan_bits binary64 ((power / 2 - 26) * 2 ^ 52 + (r + 1) / 2)))
-  no_nan = no_nan_to ((power / 2 - 26) * 2 ^ 52 + (r + 1) / 2) (omega (arith, p.most, below))
+  no_nan = not_nan_f64_bits ((power / 2 - 26) * 2 ^ 52 + (r + 1) / 2) (omega (arith, p.most, below))

@@ -2,7 +2,6 @@
 use mathlib.Core.Path.{◌≡◌, refl, sym, ◌∙◌}
 use native.Mathlib.Numerals.{add-one}
 use Prim.Native.Nat.{ℕ, ◌+◌, ◌-◌, ◌*◌}
-use native.Mathlib.Nat.{mul-le-mul_left}
 use native.Mathlib.Omega.{arith}
 use lib.ListN.{length, take, drop}
 use lib.Ieee.{Float, binary64, ne, of_bits}
@@ -18,16 +17,17 @@ pub returns-then-any_of_first : goal.returns-then-any_of_first
 returns-then-any_of_first g c =
     let a = c.args in
     let j = c.loop-j.j in
-    let p = a.p + a.ld * j in
+    let p = c.place.result in
     let e : c.any_of_first.result ≡ some g.row.ROWS (λ (k : ℕ). ne (at (take (length a.t.now - p) (drop p a.t.now)) k) (of_bits binary64 0)) = c.any_of_first.ensures in
-    let part = from_place a.t.now p g.row.ROWS (λ (x : Float). ne x (of_bits binary64 0)) (omega (arith, mul-le-mul_left a.ld c.loop-j-test.true)) in
+    let part = from_place a.t.now p g.row.ROWS (λ (k : ℕ). a.p + k + a.s.ld * j) (λ (x : Float). ne x (of_bits binary64 0)) (omega (arith, c.place.ensures)) (λ i. omega (arith, c.place.ensures.0)) in
     sym (found a.count _ j c.loop-j-test.true (sym part ∙ sym e ∙ c.if-any_of_first.true))
 
 pub loop-j-preserved : goal.loop-j-preserved
 unfolding some
 loop-j-preserved g c =
     let a = c.args in
-    let p = a.p + a.ld * c.loop-j.j in
+    let j = c.loop-j.j in
+    let p = c.place.result in
     let e : c.any_of_first.result ≡ some g.row.ROWS (λ (k : ℕ). ne (at (take (length a.t.now - p) (drop p a.t.now)) k) (of_bits binary64 0)) = c.any_of_first.ensures in
-    let part = from_place a.t.now p g.row.ROWS (λ (x : Float). ne x (of_bits binary64 0)) (omega (arith, mul-le-mul_left a.ld c.loop-j-test.true)) in
+    let part = from_place a.t.now p g.row.ROWS (λ (k : ℕ). a.p + k + a.s.ld * j) (λ (x : Float). ne x (of_bits binary64 0)) (omega (arith, c.place.ensures)) (λ i. omega (arith, c.place.ensures.0)) in
     rw (add-one, c.loop-j.invariant, ← part, ← e, c.if-any_of_first.false)

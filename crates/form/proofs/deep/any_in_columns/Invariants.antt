@@ -5,4 +5,4 @@ use Rattle.form.proofs.Below.{columns}
 use Rattle.form.proofs.deep.any_in_columns.Given as goal
 
 abbrev pub invariant-loop-j : goal.invariant-loop-j
-invariant-loop-j g l = columns l.ld l.t l.p l.j g.row.ROWS ≡ false
+invariant-loop-j g l = columns l.s.ld l.t l.p l.j g.row.ROWS ≡ false

@@ -8,6 +8,7 @@ use Rattle.model.specs.Root.{root}
 use Rattle.digits.specs.declared.whole.Radicand.{Radicand}
 use Rattle.laws.specs.RootNearest.{IsRoot}
 use Rattle.laws.proofs.WholeRoot.{root_is, root_unique, le_root, root_lt}
+use Rattle.digits.proofs.Short.{above_zero}
 use Rattle.digits.proofs.whole.Radicand.whole_root.Goals as goal
 
 -- what the division gives, and the bounds that keep each step within 64 bits
@@ -39,14 +40,10 @@ module _ (d s q u : ℕ) (p : Parted d s q u) where
   kept : q * q ≤ u * 2 ^ 27 → s * 2 ^ 27 + q ≡ root (d * 2 ^ 54)
   kept t = root_unique (d * 2 ^ 54) (s * 2 ^ 27 + q) (omega arith, omega arith)
 
-  some : (q : ℕ) → u * 2 ^ 27 < q * q → 0 < q
-  some zero h = absurd (omega arith)
-  some (suc q) h = omega arith
-
   lowered : (r : ℕ) → u * 2 ^ 27 < q * q → suc r ≡ s * 2 ^ 27 + q → r ≡ root (d * 2 ^ 54)
   lowered r t e =
       let x : q * q ≤ 2 ^ 27 * 2 ^ 27 = mul-le-mul p.little p.little in
-      let z = some q t in
+      let z = above_zero (u * 2 ^ 27) q t in
       let y : suc r * suc r ≡ (s * 2 ^ 27 + q) * (s * 2 ^ 27 + q) = rw e in
       root_unique (d * 2 ^ 54) r (omega arith, omega arith)
 
@@ -54,41 +51,8 @@ module _ (d s q u : ℕ) (p : Parted d s q u) where
 parts : (d : Radicand) {s : ℕ} → s ≡ root d.digits → Parted d.digits s ((d.digits - s * s) * 2 ^ 27 / (s * 2)) ((d.digits - s * s) * 2 ^ 27 % (s * 2))
 parts d {s} e = parted d.digits s d.least d.most (rw e (root_is d.digits))
 
-pub overflow_mul-rest : goal.overflow_mul-rest
-overflow_mul-rest c = let p = parts c.args.self c.small_root-s.ensures in omega arith
-
-pub overflow_sub-rest : goal.overflow_sub-rest
-overflow_sub-rest c = let p = parts c.args.self c.small_root-s.ensures in omega arith
-
-pub overflow_mul-rest-2 : goal.overflow_mul-rest-2
-overflow_mul-rest-2 c = let p = parts c.args.self c.small_root-s.ensures in omega arith
-
-pub overflow_mul-q : goal.overflow_mul-q
-overflow_mul-q c = let p = parts c.args.self c.small_root-s.ensures in omega arith
-
-pub nonzero_div-q : goal.nonzero_div-q
-nonzero_div-q c = let p = parts c.args.self c.small_root-s.ensures in omega arith
-
-pub overflow_mul-u : goal.overflow_mul-u
-overflow_mul-u c = let p = parts c.args.self c.small_root-s.ensures in omega arith
-
-pub nonzero_rem-u : goal.nonzero_rem-u
-nonzero_rem-u c = let p = parts c.args.self c.small_root-s.ensures in omega arith
-
-pub overflow_mul-r : goal.overflow_mul-r
-overflow_mul-r c = let p = parts c.args.self c.small_root-s.ensures in omega arith
-
-pub overflow_add-r : goal.overflow_add-r
-overflow_add-r c = let p = parts c.args.self c.small_root-s.ensures in omega arith
-
-pub overflow_mul-q-2 : goal.overflow_mul-q-2
-overflow_mul-q-2 c = let p = parts c.args.self c.small_root-s.ensures in omega (arith, mul-le-mul p.little p.little)
-
-pub overflow_mul-u-2 : goal.overflow_mul-u-2
-overflow_mul-u-2 c = let p = parts c.args.self c.small_root-s.ensures in omega arith
-
 pub returns-then-q-u : goal.returns-then-q-u
-returns-then-q-u c = kept _ _ _ _ (parts c.args.self c.small_root-s.ensures) c.if-q-u.true
+returns-then-q-u c = kept _ _ _ _ (parts c.args.self c.small_root-s.ensures.is) c.if-q-u.true
 
 pub returns-else-q-u : goal.returns-else-q-u
-returns-else-q-u c = let p = parts c.args.self c.small_root-s.ensures in lowered _ _ _ _ p _ c.if-q-u.false (omega arith)
+returns-else-q-u c = let p = parts c.args.self c.small_root-s.ensures.is in lowered _ _ _ _ p _ c.if-q-u.false (omega arith)

@@ -1,5 +1,7 @@
 -- `form::shape::Shape::nonzero_below` meets its contract. Assumes nothing.
+use lib.Ieee.{ne}
 use Rattle.form.proofs.shape.Shape.nonzero_below.Goals as goal
 
 pub returns : goal.returns
-returns c = rw c.get.ensures
+unfolding ne
+returns c = rw c.zero_below.ensures

@@ -1,5 +1,0 @@
--- `form::shape::Shape::zero_below` meets its contract. Assumes nothing.
-use Rattle.form.proofs.shape.Shape.zero_below.Goals as goal
-
-pub returns : goal.returns
-returns c = rw c.get.ensures
