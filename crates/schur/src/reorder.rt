@@ -9,6 +9,7 @@ use crate::exchange::exchange_straight;
 use form::lines::accepted_move;
 use form::shape::Shape;
 use refusal::Refusal;
+use swaps::neighbours::Neighbours;
 use walks::counts::Counts;
 use walks::moving::Kind;
 use walks::walk::walk;
@@ -19,15 +20,8 @@ struct GoesOn;
 impl Kind for GoesOn {
     ghost kind = { λ ld n. Stopping.goes_on binary64 ld n };
 
-    fn exchange(
-        s: Shape,
-        t: &mut [f64],
-        u: &mut [f64],
-        j: usize,
-        n1: usize,
-        n2: usize,
-    ) -> Result<Counts, Counts> {
-        Ok(exchange_straight(s, t, u, j, n1, n2))
+    fn exchange(s: Shape, t: &mut [f64], u: &mut [f64], b: Neighbours) -> Result<Counts, Counts> {
+        Ok(exchange_straight(s, t, u, b))
     }
 }
 

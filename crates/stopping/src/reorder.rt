@@ -7,6 +7,7 @@ ghost use Rattle.stopping.specs.View.{stopped};
 use form::lines::accepted_move;
 use form::shape::Shape;
 use refusal::Refusal;
+use swaps::neighbours::Neighbours;
 use tries::exchange::try_exchange;
 use walks::counts::Counts;
 use walks::moving::Kind;
@@ -18,15 +19,8 @@ struct Stops;
 impl Kind for Stops {
     ghost kind = { λ ld n. Stopping.stopping binary64 ld n };
 
-    fn exchange(
-        s: Shape,
-        t: &mut [f64],
-        u: &mut [f64],
-        j: usize,
-        n1: usize,
-        n2: usize,
-    ) -> Result<Counts, Counts> {
-        let declined = try_exchange(s, t, u, j, n1, n2);
+    fn exchange(s: Shape, t: &mut [f64], u: &mut [f64], b: Neighbours) -> Result<Counts, Counts> {
+        let declined = try_exchange(s, t, u, b);
         let counts = Counts::of_one(declined);
         if declined { Err(counts) } else { Ok(counts) }
     }

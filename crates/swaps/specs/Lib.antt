@@ -5,3 +5,4 @@ pub mod Lines
 pub mod Reflects
 pub mod Kernels
 pub mod Windows
+pub mod Inside

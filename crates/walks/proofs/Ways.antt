@@ -20,6 +20,7 @@ use Rattle.model.specs.Stopping.{Kind, goes, onward, trying, whole_down, past_tw
 use Rattle.form.specs.declared.shape.Shape.{Shape}
 use Rattle.form.specs.Shaped.{IsOf}
 use Rattle.swaps.specs.Done.{Step}
+use Rattle.swaps.specs.declared.neighbours.Neighbours.{Neighbours}
 use Rattle.swaps.proofs.Steps.{step_then}
 use Rattle.laws_stopping.proofs.Control.{one-control}
 use Rattle.walks.specs.declared.counts.Counts.{Counts}
@@ -54,13 +55,13 @@ module _ {s : Shape} {t u t₁ u₁ : List Float} {m a : Moving} {step : Move.Mo
       stood_as (goes_on_lem (step M) next (sym x.stopped)) (g u₀ (step M).moving x.stands)
 
 -- ---- one exchange more
-pub one_more : (k : Kind) (s : Shape) (j n1 n2 : ℕ) {t u t₁ u₁ : List Float} {m : Moving} {r : Result Counts Counts} → Made k s j n1 n2 t u t₁ u₁ r → length u₁ ≡ length u
-    → {q : Result Moving Moving} → is_err q ≡ is_err r → either q ≡ record m { counts = both m.counts (either r) } → Takes s t u m t₁ u₁ q (trying k j n1 n2)
+pub one_more : (k : Kind) (s : Shape) (b : Neighbours) {t u t₁ u₁ : List Float} {m : Moving} {r : Result Counts Counts} → Made k s b t u t₁ u₁ r → length u₁ ≡ length u
+    → {q : Result Moving Moving} → is_err q ≡ is_err r → either q ≡ record m { counts = both m.counts (either r) } → Takes s t u m t₁ u₁ q (trying k b.row b.n1 b.n2)
 unfolding trying
-one_more k s j n1 n2 x l e i u₀ M a =
+one_more k s b x l e i u₀ M a =
     record {
       stopped = e ∙ x.stops ∙ rw (x.step.declined, a.step.done.form);
-      stands = rw i (record { here = a.here; nbf = a.nbf; step = step_then (k.exchange j n1 n2) a.step a.kept x.step; kept = l ∙ a.kept });
+      stands = rw i (record { here = a.here; nbf = a.nbf; step = step_then (k.exchange b.row b.n1 b.n2) a.step a.kept x.step; kept = l ∙ a.kept });
     }
 
 -- ---- arrived in a row

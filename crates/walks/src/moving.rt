@@ -5,28 +5,22 @@ ghost use Rattle.model.specs.Move as Move;
 ghost use Rattle.model.specs.Stopping as Stopping;
 ghost use Rattle.form.specs.Run.{Rows};
 ghost use Rattle.form.specs.Shaped.{Holds, Beside};
+ghost use Rattle.swaps.specs.Inside.{Fits};
 ghost use Rattle.walks.specs.Kinds.{Made};
 ghost use Rattle.walks.specs.Stands.{Stands, Takes, Few, More, rows, number};
 
 use crate::counts::Counts;
 use form::shape::Shape;
+use swaps::neighbours::Neighbours;
 
 // How a move makes its exchanges, and where it stops.
 pub trait Kind {
     ghost kind: { ℕ → ℕ → Stopping.Kind };
 
-    // The exchange of the n1 rows from row j on with the n2 below them: Err where it has declined and the move
-    // stops at that.
-    fn exchange(
-        s: Shape,
-        t: &mut [f64],
-        u: &mut [f64],
-        j: usize,
-        n1: usize,
-        n2: usize,
-    ) -> Result<Counts, Counts>
-        requires { Holds s t.old × Beside s u.old × Rows s.n j n1 n2 }
-        ensures { Made (kind s.ld s.n) s j n1 n2 t.old u.old t.new u.new result };
+    // The exchange of neighbouring blocks: Err where it has declined and the move stops at that.
+    fn exchange(s: Shape, t: &mut [f64], u: &mut [f64], b: Neighbours) -> Result<Counts, Counts>
+        requires { Holds s t.old × Beside s u.old × Fits s b }
+        ensures { Made (kind s.ld s.n) s b t.old u.old t.new u.new result };
 }
 
 // What is moved: one row, a 2-block, or the two rows of a 2-block that has split.
@@ -110,7 +104,7 @@ fn trying<K: Kind>(
     ensures stands { Takes s t.old u.old m t.new u.new result (Stopping.trying (K.kind s.ld s.n) j n1 n2) }
     ensures counts { IfOk result (λ r. (r.here ≡ m.here) × More 4 m r) }
 {
-    match K::exchange(s, t, u, j, n1, n2) {
+    match K::exchange(s, t, u, Neighbours { row: j, n1, n2 }) {
         Ok(c) => Ok(Moving {
             counts: m.counts + c,
             ..m
@@ -134,7 +128,8 @@ fn whole_down<K: Kind>(s: Shape, t: &mut [f64], u: &mut [f64], m: Moving) -> Res
     Ok(e.landed_whole(s, t, m.here + next))
 }
 
-// Past a 2-block that the lower row has passed, and that may have split at that.
+// The upper row past a 2-block that the lower row has passed, or past each of its rows where that exchange
+// has split it.
 fn past_two_down<K: Kind>(
     s: Shape,
     t: &mut [f64],
@@ -201,7 +196,8 @@ fn whole_up<K: Kind>(s: Shape, t: &mut [f64], u: &mut [f64], m: Moving) -> Resul
     Ok(e.landed_whole(s, t, to))
 }
 
-// Past a 2-block that the upper row has passed, and that may have split at that.
+// The lower row past a 2-block that the upper row has passed, or past each of its rows where that exchange
+// has split it.
 fn past_two_up<K: Kind>(s: Shape, t: &mut [f64], u: &mut [f64], m: Moving) -> Result<Moving, Moving>
     requires { Holds s t.old × Beside s u.old × Few 1100 m × (2 ≤ m.here) × (m.here + 2 ≤ s.n) }
     ensures stands { Takes s t.old u.old m t.new u.new result (Stopping.past_two_up (K.kind s.ld s.n) binary64 s.ld s.n) }
