@@ -1,6 +1,7 @@
 // The move of a block (reorder_schur).
 ghost use Rattle.std.specs.Prelude.{◌≡◌};
 ghost use Rattle.std.specs.Float.{binary64};
+ghost use Rattle.std.proofs.Common.{arith};
 ghost use Rattle.model.specs.Move as Move;
 ghost use Rattle.model.specs.Stopping as Stopping;
 ghost use Rattle.schur.specs.View.{moved};
@@ -20,9 +21,13 @@ struct GoesOn;
 impl Kind for GoesOn {
     ghost kind = { λ ld n. Stopping.goes_on binary64 ld n };
 
+    ghost most = { 4 };
+
     fn exchange(s: Shape, t: &mut [f64], u: &mut [f64], b: Neighbours) -> Result<Counts, Counts> {
         Ok(exchange_straight(s, t, u, b))
     }
+
+    ghost few = { omega arith };
 }
 
 // The row that a move landed on, and the counts.

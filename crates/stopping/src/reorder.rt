@@ -1,6 +1,7 @@
 // The move of a block that stops at the first exchange whose test fails (reorder_schur_stopping).
 ghost use Rattle.std.specs.Prelude.{◌≡◌};
 ghost use Rattle.std.specs.Float.{binary64};
+ghost use Rattle.std.proofs.Common.{arith};
 ghost use Rattle.model.specs.Stopping as Stopping;
 ghost use Rattle.stopping.specs.View.{stopped};
 
@@ -19,11 +20,15 @@ struct Stops;
 impl Kind for Stops {
     ghost kind = { λ ld n. Stopping.stopping binary64 ld n };
 
+    ghost most = { 1 };
+
     fn exchange(s: Shape, t: &mut [f64], u: &mut [f64], b: Neighbours) -> Result<Counts, Counts> {
         let declined = try_exchange(s, t, u, b);
         let counts = Counts::of_one(declined);
         if declined { Err(counts) } else { Ok(counts) }
     }
+
+    ghost few = { omega arith };
 }
 
 // Whether a move has stopped, the row of the moved block and the counts.

@@ -55,10 +55,10 @@ module _ {s : Shape} {t u t₁ u₁ : List Float} {m a : Moving} {step : Move.Mo
       stood_as (goes_on_lem (step M) next (sym x.stopped)) (g u₀ (step M).moving x.stands)
 
 -- ---- one exchange more
-pub one_more : (k : Kind) (s : Shape) (b : Neighbours) {t u t₁ u₁ : List Float} {m : Moving} {r : Result Counts Counts} → Made k s b t u t₁ u₁ r → length u₁ ≡ length u
+pub one_more : (k : Kind) (most : ℕ) (s : Shape) (b : Neighbours) {t u t₁ u₁ : List Float} {m : Moving} {r : Result Counts Counts} → Made k most s b t u t₁ u₁ r → length u₁ ≡ length u
     → {q : Result Moving Moving} → is_err q ≡ is_err r → either q ≡ record m { counts = both m.counts (either r) } → Takes s t u m t₁ u₁ q (trying k b.row b.n1 b.n2)
 unfolding trying
-one_more k s b x l e i u₀ M a =
+one_more k most s b x l e i u₀ M a =
     record {
       stopped = e ∙ x.stops ∙ rw (x.step.declined, a.step.done.form);
       stands = rw i (record { here = a.here; nbf = a.nbf; step = step_then (k.exchange b.row b.n1 b.n2) a.step a.kept x.step; kept = l ∙ a.kept });

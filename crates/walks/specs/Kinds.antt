@@ -1,5 +1,5 @@
 -- What the exchange of a kind makes. Definitions only. Assumes nothing.
-use Rattle.std.specs.Prelude.{◌≡◌, ◌≤◌, not, ◌&&◌, List, eqb, Float, Result, Ok, Err, is_err}
+use Rattle.std.specs.Prelude.{◌≡◌, ℕ, ◌≤◌, not, ◌&&◌, List, eqb, Float, Result, Ok, Err, is_err}
 use Rattle.model.specs.Stopping as Stopping
 use Rattle.form.specs.declared.shape.Shape.{Shape}
 use Rattle.swaps.specs.Done.{Step}
@@ -11,9 +11,9 @@ abbrev pub either : {A : Type 0} → Result A A → A
 either (Ok a) = a
 either (Err a) = a
 
--- form and factor go from t and u to t₁ and u₁ as the kind's exchange has it, with the counts in r, four at most, which is an Err exactly where a swap declined and the kind stops at that
-pub record Made (k : Stopping.Kind) (s : Shape) (b : Neighbours) (t u t₁ u₁ : List Float) (r : Result Counts Counts) : Type 0 where
+-- form and factor go from t and u to t₁ and u₁ as the kind's exchange has it, with the counts in r, `most` at most, which is an Err exactly where a swap declined and the kind stops at that
+pub record Made (k : Stopping.Kind) (most : ℕ) (s : Shape) (b : Neighbours) (t u t₁ u₁ : List Float) (r : Result Counts Counts) : Type 0 where
   pub step : Step s.ld s.n u t₁ u₁ (either r).swaps (either r).declined (k.exchange b.row b.n1 b.n2 t)
-  pub few : (either r).swaps ≤ 4
-  pub fewer : (either r).declined ≤ 4
+  pub few : (either r).swaps ≤ most
+  pub fewer : (either r).declined ≤ most
   pub stops : is_err r ≡ (k.stops && not (eqb (either r).declined 0))

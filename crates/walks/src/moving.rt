@@ -1,5 +1,5 @@
 // A move on its way: one exchange of a kind, and one step down or up.
-ghost use Rattle.std.specs.Prelude.{◌≡◌, ℕ, ◌+◌, ◌-◌, ◌≤◌, ◌<◌, List, Float, IfOk};
+ghost use Rattle.std.specs.Prelude.{◌≡◌, ℕ, ◌+◌, ◌-◌, ◌*◌, ◌≤◌, ◌<◌, List, Float, IfOk};
 ghost use Rattle.std.specs.Float.{binary64};
 ghost use Rattle.model.specs.Move as Move;
 ghost use Rattle.model.specs.Stopping as Stopping;
@@ -17,10 +17,15 @@ use swaps::neighbours::Neighbours;
 pub trait Kind {
     ghost kind: { ℕ → ℕ → Stopping.Kind };
 
+    // How many swaps an exchange runs at most.
+    ghost most: { ℕ };
+
     // The exchange of neighbouring blocks: Err where it has declined and the move stops at that.
     fn exchange(s: Shape, t: &mut [f64], u: &mut [f64], b: Neighbours) -> Result<Counts, Counts>
         requires { Holds s t.old × Beside s u.old × Fits s b }
-        ensures { Made (kind s.ld s.n) s b t.old u.old t.new u.new result };
+        ensures { Made (kind s.ld s.n) most s b t.old u.old t.new u.new result };
+
+    ghost few: { most ≤ 4 };
 }
 
 // What is moved: one row, a 2-block, or the two rows of a 2-block that has split.
@@ -88,8 +93,8 @@ impl Moving {
     }
 }
 
-// One exchange more: the row stays, and is moved on where the step ends. In line, so that the numbers of a
-// move stay in registers.
+// One exchange more: the row stays, and is moved on where the step ends. Its blocks are three numbers, made
+// Neighbours here and not at each place that calls it. In line, so that the numbers of a move stay in registers.
 #[inline(always)]
 fn trying<K: Kind>(
     s: Shape,
@@ -102,7 +107,7 @@ fn trying<K: Kind>(
 ) -> Result<Moving, Moving>
     requires { Holds s t.old × Beside s u.old × Rows s.n j n1 n2 × Few 2000 m }
     ensures stands { Takes s t.old u.old m t.new u.new result (Stopping.trying (K.kind s.ld s.n) j n1 n2) }
-    ensures counts { IfOk result (λ r. (r.here ≡ m.here) × More 4 m r) }
+    ensures counts { IfOk result (λ r. (r.here ≡ m.here) × More K.most m r) }
 {
     match K::exchange(s, t, u, Neighbours { row: j, n1, n2 }) {
         Ok(c) => Ok(Moving {
@@ -120,7 +125,7 @@ fn trying<K: Kind>(
 fn whole_down<K: Kind>(s: Shape, t: &mut [f64], u: &mut [f64], m: Moving) -> Result<Moving, Moving>
     requires { Holds s t.old × Beside s u.old × Few 1000 m × (rows m.block ≡ number m.block) × (m.here + rows m.block < s.n) }
     ensures stands { Takes s t.old u.old m t.new u.new result (Stopping.whole_down (K.kind s.ld s.n) binary64 s.ld s.n) }
-    ensures counts { IfOk result (λ r. (m.here < r.here) × (r.here + rows m.block ≤ s.n) × More 4 m r) }
+    ensures counts { IfOk result (λ r. (m.here < r.here) × (r.here + rows m.block ≤ s.n) × More K.most m r) }
 {
     let rows = m.block.rows();
     let next = s.size_at(t, m.here + rows);
@@ -138,7 +143,7 @@ fn past_two_down<K: Kind>(
 ) -> Result<Moving, Moving>
     requires { Holds s t.old × Beside s u.old × Few 1100 m × (m.here + 4 ≤ s.n) }
     ensures stands { Takes s t.old u.old m t.new u.new result (Stopping.past_two_down (K.kind s.ld s.n) binary64 s.ld s.n) }
-    ensures counts { IfOk result (λ r. (r.here ≡ m.here + 2) × More 8 m r) }
+    ensures counts { IfOk result (λ r. (r.here ≡ m.here + 2) × More (2 * K.most) m r) }
 {
     let here = m.here;
     if s.zero_below(t, here + 1) {
@@ -154,7 +159,7 @@ fn past_two_down<K: Kind>(
 fn apart_down<K: Kind>(s: Shape, t: &mut [f64], u: &mut [f64], m: Moving) -> Result<Moving, Moving>
     requires { Holds s t.old × Beside s u.old × Few 1000 m × (m.here + 3 ≤ s.n) }
     ensures stands { Takes s t.old u.old m t.new u.new result (Stopping.apart_down (K.kind s.ld s.n) binary64 s.ld s.n) }
-    ensures counts { IfOk result (λ r. (m.here < r.here) × (r.here + 2 ≤ s.n) × More 12 m r) }
+    ensures counts { IfOk result (λ r. (m.here < r.here) × (r.here + 2 ≤ s.n) × More (3 * K.most) m r) }
 {
     let here = m.here;
     let next = s.size_at(t, here + 2);
@@ -175,7 +180,7 @@ pub(crate) fn step_down<K: Kind>(
 ) -> Result<Moving, Moving>
     requires { Holds s t.old × Beside s u.old × Few 1000 m × (m.here + rows m.block < s.n) }
     ensures stands { Takes s t.old u.old m t.new u.new result (Stopping.step_down (K.kind s.ld s.n) binary64 s.ld s.n) }
-    ensures counts { IfOk result (λ r. (m.here < r.here) × (r.here + rows m.block ≤ s.n) × More 12 m r) }
+    ensures counts { IfOk result (λ r. (m.here < r.here) × (r.here + rows m.block ≤ s.n) × More (3 * K.most) m r) }
 {
     match m.block {
         Block::Parted => apart_down::<K>(s, t, u, m),
@@ -187,7 +192,7 @@ pub(crate) fn step_down<K: Kind>(
 fn whole_up<K: Kind>(s: Shape, t: &mut [f64], u: &mut [f64], m: Moving) -> Result<Moving, Moving>
     requires { Holds s t.old × Beside s u.old × Few 1000 m × (rows m.block ≡ number m.block) × (0 < m.here) × (m.here + rows m.block ≤ s.n) }
     ensures stands { Takes s t.old u.old m t.new u.new result (Stopping.whole_up (K.kind s.ld s.n) binary64 s.ld s.n) }
-    ensures counts { IfOk result (λ r. (r.here < m.here) × More 4 m r) }
+    ensures counts { IfOk result (λ r. (r.here < m.here) × More K.most m r) }
 {
     let rows = m.block.rows();
     let next = s.size_above(t, m.here);
@@ -201,7 +206,7 @@ fn whole_up<K: Kind>(s: Shape, t: &mut [f64], u: &mut [f64], m: Moving) -> Resul
 fn past_two_up<K: Kind>(s: Shape, t: &mut [f64], u: &mut [f64], m: Moving) -> Result<Moving, Moving>
     requires { Holds s t.old × Beside s u.old × Few 1100 m × (2 ≤ m.here) × (m.here + 2 ≤ s.n) }
     ensures stands { Takes s t.old u.old m t.new u.new result (Stopping.past_two_up (K.kind s.ld s.n) binary64 s.ld s.n) }
-    ensures counts { IfOk result (λ r. (r.here ≡ m.here - 2) × More 8 m r) }
+    ensures counts { IfOk result (λ r. (r.here ≡ m.here - 2) × More (2 * K.most) m r) }
 {
     let here = m.here;
     if s.zero_below(t, here - 1) {
@@ -217,7 +222,7 @@ fn past_two_up<K: Kind>(s: Shape, t: &mut [f64], u: &mut [f64], m: Moving) -> Re
 fn apart_up<K: Kind>(s: Shape, t: &mut [f64], u: &mut [f64], m: Moving) -> Result<Moving, Moving>
     requires { Holds s t.old × Beside s u.old × Few 1000 m × (0 < m.here) × (m.here + 2 ≤ s.n) }
     ensures stands { Takes s t.old u.old m t.new u.new result (Stopping.apart_up (K.kind s.ld s.n) binary64 s.ld s.n) }
-    ensures counts { IfOk result (λ r. (r.here < m.here) × More 12 m r) }
+    ensures counts { IfOk result (λ r. (r.here < m.here) × More (3 * K.most) m r) }
 {
     let here = m.here;
     let next = s.size_above(t, here);
@@ -238,7 +243,7 @@ pub(crate) fn step_up<K: Kind>(
 ) -> Result<Moving, Moving>
     requires { Holds s t.old × Beside s u.old × Few 1000 m × (0 < m.here) × (m.here + rows m.block ≤ s.n) }
     ensures stands { Takes s t.old u.old m t.new u.new result (Stopping.step_up (K.kind s.ld s.n) binary64 s.ld s.n) }
-    ensures counts { IfOk result (λ r. (r.here < m.here) × More 12 m r) }
+    ensures counts { IfOk result (λ r. (r.here < m.here) × More (3 * K.most) m r) }
 {
     match m.block {
         Block::Parted => apart_up::<K>(s, t, u, m),
