@@ -30,7 +30,8 @@ impl Kind for GoesOn {
     ghost few = { omega arith };
 }
 
-// The row that a move landed on, and the counts.
+// The row that a move landed on, and the counts, which are numbers of the answer itself and no Counts, since
+// document 01 asks for that form.
 #[derive(Clone, Copy)]
 pub struct Moved {
     pub landed: usize,

@@ -31,7 +31,8 @@ impl Kind for Stops {
     ghost few = { omega arith };
 }
 
-// Whether a move has stopped, the row of the moved block and the counts.
+// Whether a move has stopped, which C is given too, the row of the moved block, and the counts, which are numbers
+// of the answer itself and no Counts, since document 01 asks for that form.
 #[derive(Clone, Copy)]
 pub struct Stopped {
     pub stopped: bool,

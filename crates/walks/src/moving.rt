@@ -1,4 +1,6 @@
-// A move on its way: one exchange of a kind, and one step down or up.
+// A move on its way: one exchange of a kind, and one step down or up. Down and up have functions of their own, as in
+// model: they take their rows from below or above, and two rows in the other order, so that of one function for
+// both hardly a line would be without its direction.
 ghost use Rattle.std.specs.Prelude.{◌≡◌, ℕ, ◌+◌, ◌-◌, ◌*◌, ◌≤◌, ◌<◌, List, Float, IfOk};
 ghost use Rattle.std.specs.Float.{binary64};
 ghost use Rattle.model.specs.Move as Move;
