@@ -13,7 +13,10 @@ use Rattle.model.specs.Columns.{on_factor}
 use Rattle.model.specs.Swaps.{Change, unchanged, and_then, declines_in, swap11, swap_of}
 use Rattle.model.specs.Exchange.{standardise_if, exchange_whole, exchange}
 use Rattle.form.specs.Run.{Rows}
+use Rattle.form.specs.declared.shape.Shape.{Shape}
+use Rattle.swaps.specs.declared.neighbours.Neighbours.{Neighbours}
 use Rattle.swaps.specs.Done.{Done, Step}
+use Rattle.swaps.specs.Inside.{Fits}
 use Rattle.laws.proofs.Runs.{swaps_then, declined_then}
 use Rattle.laws_exchange.specs.Loop.{Small, small, Working, round, rounds, Sizes}
 use Rattle.laws_exchange.proofs.Parts.{is-two, none_apart}
@@ -99,6 +102,10 @@ pub record Reached (ld n : ℕ) (u₀ t u : List Float) (todo : List Small) (swa
   pub within : Within n todo
   pub few : swaps + pairs todo ≤ 4
   pub fewer : declined + pairs todo ≤ 4
+
+-- neighbouring blocks inside a form have such rows
+pub rows_of : (s : Shape) (b : Neighbours) → Fits s b → Rows s.n b.row b.n1 b.n2
+rows_of s b i = record { one1 = b.one1; two1 = b.two1; one2 = b.one2; two2 = b.two2; inside = i }
 
 pub begins : {ld n j n1 n2 : ℕ} (t u : List Float) → Rows n j n1 n2 → Reached ld n u t u (small j n1 n2 ∷ []) 0 0 (exchange binary64 ld n j n1 n2 t)
 unfolding on_factor declines_in Within pairs

@@ -1,11 +1,11 @@
 -- The small exchanges that the code has still to do, as the loop of laws_exchange has them. Definitions only. Assumes nothing.
-use Rattle.std.specs.Prelude.{ℕ, List, map, reverse}
+use Rattle.std.specs.Prelude.{List, map, reverse}
+use Rattle.swaps.specs.declared.neighbours.Neighbours.{Neighbours}
 use Rattle.laws_exchange.specs.Loop as Loop
 
--- by its row, n1 and n2
-abbrev pub seen : ℕ × ℕ × ℕ → Loop.Small
-seen s = record { row = s.0; n1 = s.1; n2 = s.2 }
+abbrev pub seen : Neighbours → Loop.Small
+seen b = record { row = b.row; n1 = b.n1; n2 = b.n2 }
 
 -- the last pushed next
-unfoldable pub waiting : List (ℕ × ℕ × ℕ) → List Loop.Small
+unfoldable pub waiting : List Neighbours → List Loop.Small
 waiting todo = map seen (reverse todo)

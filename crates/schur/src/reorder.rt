@@ -1,6 +1,7 @@
 // The move of a block (reorder_schur).
 ghost use Rattle.std.specs.Prelude.{◌≡◌};
 ghost use Rattle.std.specs.Float.{binary64};
+ghost use Rattle.std.proofs.Common.{arith};
 ghost use Rattle.model.specs.Move as Move;
 ghost use Rattle.model.specs.Stopping as Stopping;
 ghost use Rattle.schur.specs.View.{moved};
@@ -9,6 +10,7 @@ use crate::exchange::exchange_straight;
 use form::lines::accepted_move;
 use form::shape::Shape;
 use refusal::Refusal;
+use swaps::neighbours::Neighbours;
 use walks::counts::Counts;
 use walks::moving::Kind;
 use walks::walk::walk;
@@ -19,19 +21,17 @@ struct GoesOn;
 impl Kind for GoesOn {
     ghost kind = { λ ld n. Stopping.goes_on binary64 ld n };
 
-    fn exchange(
-        s: Shape,
-        t: &mut [f64],
-        u: &mut [f64],
-        j: usize,
-        n1: usize,
-        n2: usize,
-    ) -> Result<Counts, Counts> {
-        Ok(exchange_straight(s, t, u, j, n1, n2))
+    ghost most = { 4 };
+
+    fn exchange(s: Shape, t: &mut [f64], u: &mut [f64], b: Neighbours) -> Result<Counts, Counts> {
+        Ok(exchange_straight(s, t, u, b))
     }
+
+    ghost few = { omega arith };
 }
 
-// The row that a move landed on, and the counts.
+// The row that a move landed on, and the counts, which are numbers of the answer itself and no Counts, since
+// document 01 asks for that form.
 #[derive(Clone, Copy)]
 pub struct Moved {
     pub landed: usize,

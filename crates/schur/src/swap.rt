@@ -7,6 +7,7 @@ ghost use Rattle.schur.specs.View.{exchanged};
 use crate::exchange::exchange;
 use form::lines::accepted_exchange;
 use refusal::Refusal;
+use swaps::neighbours::Neighbours;
 use walks::counts::Counts;
 
 // The exchange of the n1 rows from row j0 on with the n2 below them.
@@ -22,5 +23,6 @@ pub fn schur_swap(
     ensures { exchanged result t.new u.new ≡ Exchange.exchange_call binary64 ld n t.old u.old j0 n1 n2 }
 {
     let s = accepted_exchange(n, ld, t, u, j0, n1, n2)?;
-    Ok(exchange(s, t, u, j0, n1, n2))
+    let b = Neighbours { row: j0, n1, n2 };
+    Ok(exchange(s, t, u, b))
 }

@@ -1,12 +1,14 @@
 // The move of a block that stops at the first exchange whose test fails (reorder_schur_stopping).
 ghost use Rattle.std.specs.Prelude.{◌≡◌};
 ghost use Rattle.std.specs.Float.{binary64};
+ghost use Rattle.std.proofs.Common.{arith};
 ghost use Rattle.model.specs.Stopping as Stopping;
 ghost use Rattle.stopping.specs.View.{stopped};
 
 use form::lines::accepted_move;
 use form::shape::Shape;
 use refusal::Refusal;
+use swaps::neighbours::Neighbours;
 use tries::exchange::try_exchange;
 use walks::counts::Counts;
 use walks::moving::Kind;
@@ -18,21 +20,19 @@ struct Stops;
 impl Kind for Stops {
     ghost kind = { λ ld n. Stopping.stopping binary64 ld n };
 
-    fn exchange(
-        s: Shape,
-        t: &mut [f64],
-        u: &mut [f64],
-        j: usize,
-        n1: usize,
-        n2: usize,
-    ) -> Result<Counts, Counts> {
-        let declined = try_exchange(s, t, u, j, n1, n2);
+    ghost most = { 1 };
+
+    fn exchange(s: Shape, t: &mut [f64], u: &mut [f64], b: Neighbours) -> Result<Counts, Counts> {
+        let declined = try_exchange(s, t, u, b);
         let counts = Counts::of_one(declined);
         if declined { Err(counts) } else { Ok(counts) }
     }
+
+    ghost few = { omega arith };
 }
 
-// Whether a move has stopped, the row of the moved block and the counts.
+// Whether a move has stopped, which C is given too, the row of the moved block, and the counts, which are numbers
+// of the answer itself and no Counts, since document 01 asks for that form.
 #[derive(Clone, Copy)]
 pub struct Stopped {
     pub stopped: bool,

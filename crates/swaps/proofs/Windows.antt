@@ -40,16 +40,9 @@ module _ {X : Type 0} {n : ℕ} (f : ℕ → X) (d : X) (i : ℕ) (xs : List X) 
 
 -- ---- windows of three, and of four
 
-pub window_3 : (ld : ℕ) (t : List Float) (p q r : ℕ) → columns3 (window_of 3 ld t (p ∷ q ∷ r ∷ [])) ≡ Stopping.window_of ld t p q r
-unfolding Stopping.window_of Stopping.triple_in
-window_3 ld t p q r = refl {a = Stopping.window_of ld t p q r}
-
-window_4 : (ld : ℕ) (t : List Float) (j : ℕ) → columns4 (window_of 4 ld t (rows4 j)) ≡ Swaps.window_at ld t j
-unfolding Swaps.window_at Swaps.window_column
-window_4 ld t j = refl {a = Swaps.window_at ld t j}
-
 pub window_at : (ld : ℕ) (t : List Float) (j : ℕ) {rows : List ℕ} {w : List (List Float)} → rows ≡ rows4 j → w ≡ window_of 4 ld t rows → columns4 w ≡ Swaps.window_at ld t j
-window_at ld t j a b = ap columns4 (b ∙ ap (window_of 4 ld t) a) ∙ window_4 ld t j
+unfolding Swaps.window_at Swaps.window_column
+window_at ld t j a b = rw (b, a) (refl {a = Swaps.window_at ld t j})
 
 pub transposed_3 : (w : List (List Float)) → columns3 (transposed 3 w) ≡ Stopping.transposed3 (columns3 w)
 unfolding Stopping.transposed3

@@ -4,4 +4,6 @@ pub mod Forms
 pub mod Lines
 pub mod Reflects
 pub mod Kernels
+pub mod Along
 pub mod Windows
+pub mod Inside

@@ -1,10 +1,12 @@
-// Orthogonal operations on the N numbers of one row or column: a rotation of two, pairs of reflections of three and of four.
+// Orthogonal operations on the N numbers of one row or column: a rotation of two, pairs of reflections of three
+// and of four.
 ghost use Rattle.std.specs.Prelude.{◌≡◌, ℕ, ◌+◌, ◌≤◌, ◌-◌, List, Float};
 ghost use Rattle.std.specs.Float.{binary64};
 ghost use Rattle.model.specs.Arith.{recip};
 ghost use Rattle.model.specs.Columns.{Operation};
 ghost use Rattle.swaps.specs.Lines.{Lines};
-ghost use Rattle.swaps.specs.Kernels.{rotated, rotates_lines, rotates_on, reflected3, reflects3_lines, reflects3_on, reflected4, reflects4_lines, reflects4_on};
+ghost use Rattle.swaps.specs.Kernels.{rotated, rotates_lines, reflected3, reflects3_lines, reflected4, reflects4_lines};
+ghost use Rattle.swaps.specs.Along.{rotates_on, reflects3_on, reflects4_on};
 ghost use Rattle.swaps.specs.Reflects.{reflects_from, reflection_of, IsReflectors};
 ghost use Rattle.swaps.specs.View.{reflection3, reflection4};
 ghost use Rattle.linalg.specs.View.{rotation};
@@ -24,7 +26,7 @@ pub trait Kernel<const N: usize>: Copy {
     fn apply(self, x: [f64; N]) -> [f64; N]
         ensures { result ≡ gives self x.entry };
 
-    // Along the lines it is that operation.
+    // Applied all along the lines, what it makes of N numbers is that operation.
     ghost unfolds: { (k : Self) → Lines N (gives k) (operation k) };
 }
 
@@ -67,7 +69,8 @@ impl<const M: usize> Reflector<M> {
         }
     }
 
-    // The last M + 1 of N numbers reflected: each number less its part of the sum, times tau.
+    // The last M + 1 of N numbers reflected: each number less its part of the sum, times tau. By index: of
+    // a loop that fills y through `iter_mut` a proof knows only the length, and the sum goes along the same places.
     fn reflect<const N: usize>(&self, x: [f64; N]) -> [f64; N]
         requires { M + 1 ≤ N }
         ensures { result ≡ reflects_from M (N - (M + 1)) self.now.tau self.now.v x.entry }

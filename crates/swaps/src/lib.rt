@@ -2,6 +2,7 @@
 #![tactic(auto)]
 
 pub mod kernels;
+pub mod neighbours;
 pub mod operations;
 pub mod standardise;
 pub mod swap_11;

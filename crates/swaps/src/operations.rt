@@ -9,7 +9,7 @@ ghost use Rattle.swaps.specs.Lines.{Inside, change_at};
 use crate::kernels::Kernel;
 use form::shape::Shape;
 
-// The numbers at N places changed.
+// The numbers at N places changed. By index, here and below, for the reason that stands at `Window`.
 fn change<const N: usize, K: Kernel<N>>(t: &mut [f64], k: K, places: [usize; N])
     requires { Inside N places (length t.old) }
     ensures { t.new ≡ change_at N (K.gives k) (λ (m : ℕ). get_or places.entry m 0) t.old }
@@ -24,7 +24,9 @@ fn change<const N: usize, K: Kernel<N>>(t: &mut [f64], k: K, places: [usize; N])
     }
 }
 
-// The operation on rows from column j on.
+// The operation on rows from column j on. Rows and columns have a loop each: a common one would be told
+// where each line begins and how far apart its numbers are, which both would fill in first, and would hide from
+// the compiler that a column's numbers lie side by side, of which it changes several at once.
 fn on_rows<const N: usize, K: Kernel<N>>(s: Shape, t: &mut [f64], k: K, rows: [usize; N], j: usize)
     requires { Holds s t.old × Inside N rows s.n × (j ≤ s.n) }
     ensures { t.new ≡ Columns.on_rows binary64 s.ld j (s.n - j) (K.operation k rows.entry) t.old }

@@ -69,7 +69,8 @@ pub fn form_3(single: Single, s: Shape, t: &mut [f64], j: usize, v: Reflectors<2
     }
 }
 
-// The single row exchanged with the other two.
+// The single row exchanged with the other two. `try_3` of crate `tries` does the same after a test: one function
+// for both would be told whether to test, and give an answer that means nothing here.
 fn schur_swap_3(single: Single, s: Shape, t: &mut [f64], u: &mut [f64], j: usize)
     requires { Holds s t.old × Beside s u.old × (j + 3 ≤ s.n) }
     ensures { Done s.ld s.n u.old t.new u.new (swap3 single s.ld s.n j t.old) }

@@ -72,8 +72,9 @@ fn form_22(s: Shape, t: &mut [f64], j: usize, v: Reflectors<3, 2>)
     s.put(t, j + 3, j + 1, 0.0);
 }
 
-// The 2-block in rows j and j + 1 exchanged with the one below it: true for a decline, which touches
-// neither form nor factor.
+// The 2-block in rows j and j + 1 exchanged with the one below it: true for a decline, which touches neither
+// form nor factor. A bool, since there is nothing else to say of a decline. With `try_3` of crate `tries` it
+// has only the order of its steps in common: reflections, test and corners are others.
 pub fn schur_swap_22(s: Shape, t: &mut [f64], u: &mut [f64], j: usize) -> bool
     requires { Holds s t.old × Beside s u.old × (j + 4 ≤ s.n) }
     ensures { Done s.ld s.n u.old t.new u.new (Swaps.swap22 binary64 s.ld s.n j t.old) × (Swaps.declined_of (Swaps.swap22 binary64 s.ld s.n j t.old) ≡ cond result 1 0) }

@@ -14,6 +14,8 @@ pub struct Window<const N: usize> {
     pub columns: [[f64; N]; N],
 }
 
+// Windows are filled by index: `map` asks that its arrays fit in memory, which no N by itself ensures, and of
+// `array::from_fn` each closure, as it calls or indexes, would need a contract that repeats the loop's one line.
 impl<const N: usize> Window<N> {
     // The rows and columns of these numbers, in this order.
     pub fn of(s: Shape, t: &[f64], rows: [usize; N]) -> Self

@@ -10,7 +10,7 @@ use form::shape::Shape;
 use schur22::lahqr_schur22::Block;
 use swaps::standardise::{standard_block, standardise_by};
 
-// A block whose b is zero and whose c is not, turned over so that c is.
+// A block whose b is zero and whose c is not is turned over, so that c is zero; any other stays as it is.
 #[tactic(auto, unfolding(model::specs::Stopping::exchanged_b))]
 fn exchanged_b(x: Block) -> Block
     ensures { block result ≡ Stopping.exchanged_b binary64 (block x) }
@@ -27,7 +27,8 @@ fn exchanged_b(x: Block) -> Block
     x
 }
 
-// The rows from row j on so standardised if there are two.
+// The rows from row j on so standardised if there are two. Not one function with `standardise_if` of crate
+// `schur`, which turns no block over.
 pub fn standardise_also(s: Shape, t: &mut [f64], u: &mut [f64], size: usize, j: usize)
     requires { Holds s t.old × Beside s u.old × (j + size ≤ s.n) }
     ensures { Done s.ld s.n u.old t.new u.new (Stopping.standardise_also binary64 s.ld s.n size j t.old) }

@@ -11,8 +11,9 @@ use swaps::operations::on_factor;
 use swaps::swap_12::{Single, form_3, reflectors_3};
 use swaps::window::Window;
 
-// The largest of the test's numbers: what is to become zero, and how much the single row's diagonal number
-// changes, which goes from the first place of the window w to the last of the same tried, x.
+// The largest magnitude that the test looks at. With w for the window and x for what it is when tried: the two
+// numbers of x that an exchange makes zero, and how far the single row's diagonal number, the first of w and the
+// last of x, has changed.
 fn left_3(single: Single, w: Window<3>, x: Window<3>) -> f64
     ensures { result ≡ left3 single (window3 w) (window3 x) }
 {
@@ -24,8 +25,8 @@ fn left_3(single: Single, w: Window<3>, x: Window<3>) -> f64
     fmax(fmax(abs(a), abs(b)), abs(c2[2] - w.columns[0][0]))
 }
 
-// The single row of the three from row j on exchanged with the other two: true where the test fails,
-// which touches neither form nor factor.
+// The single row of the three from row j on exchanged with the other two: true where the test fails, which
+// touches neither form nor factor, so a bool says all.
 pub fn try_3(single: Single, s: Shape, t: &mut [f64], u: &mut [f64], j: usize) -> bool
     requires { Holds s t.old × Beside s u.old × (j + 3 ≤ s.n) }
     ensures { Done s.ld s.n u.old t.new u.new (tried3 single s.ld s.n j t.old) × (result ≡ fails3 single s.ld t.old j) }

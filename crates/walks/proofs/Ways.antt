@@ -2,7 +2,7 @@
 use mathlib.Core.Path.{◌≡◌, refl, sym, ap, ◌∙◌, subst}
 use Prim.Native.Nat.{ℕ, ◌+◌, ◌-◌, ◌<◌}
 use native.Mathlib.Omega.{arith}
-use mathlib.Core.Bool.{true, false, ◌&&◌, cond}
+use mathlib.Core.Bool.{Bool, true, false, ◌&&◌, cond}
 use mathlib.Core.List.{List, []}
 use mathlib.Core.Logic.{◌⊎◌, inl, inr}
 use lib.Dec.{eqb}
@@ -20,6 +20,7 @@ use Rattle.model.specs.Stopping.{Kind, goes, onward, trying, whole_down, past_tw
 use Rattle.form.specs.declared.shape.Shape.{Shape}
 use Rattle.form.specs.Shaped.{IsOf}
 use Rattle.swaps.specs.Done.{Step}
+use Rattle.swaps.specs.declared.neighbours.Neighbours.{Neighbours}
 use Rattle.swaps.proofs.Steps.{step_then}
 use Rattle.laws_stopping.proofs.Control.{one-control}
 use Rattle.walks.specs.declared.counts.Counts.{Counts}
@@ -54,13 +55,13 @@ module _ {s : Shape} {t u t₁ u₁ : List Float} {m a : Moving} {step : Move.Mo
       stood_as (goes_on_lem (step M) next (sym x.stopped)) (g u₀ (step M).moving x.stands)
 
 -- ---- one exchange more
-pub one_more : (k : Kind) (s : Shape) (j n1 n2 : ℕ) {t u t₁ u₁ : List Float} {m : Moving} {r : Result Counts Counts} → Made k s j n1 n2 t u t₁ u₁ r → length u₁ ≡ length u
-    → {q : Result Moving Moving} → is_err q ≡ is_err r → either q ≡ record m { counts = both m.counts (either r) } → Takes s t u m t₁ u₁ q (trying k j n1 n2)
+pub one_more : (k : Kind) (most : ℕ) (s : Shape) (b : Neighbours) {t u t₁ u₁ : List Float} {m : Moving} {r : Result Counts Counts} → Made k most s b t u t₁ u₁ r → length u₁ ≡ length u
+    → {q : Result Moving Moving} → is_err q ≡ is_err r → either q ≡ record m { counts = both m.counts (either r) } → Takes s t u m t₁ u₁ q (trying k b.row b.n1 b.n2)
 unfolding trying
-one_more k s j n1 n2 x l e i u₀ M a =
+one_more k most s b x l e i u₀ M a =
     record {
       stopped = e ∙ x.stops ∙ rw (x.step.declined, a.step.done.form);
-      stands = rw i (record { here = a.here; nbf = a.nbf; step = step_then (k.exchange j n1 n2) a.step a.kept x.step; kept = l ∙ a.kept });
+      stands = rw i (record { here = a.here; nbf = a.nbf; step = step_then (k.exchange b.row b.n1 b.n2) a.step a.kept x.step; kept = l ∙ a.kept });
     }
 
 -- ---- arrived in a row
@@ -87,21 +88,21 @@ not_two One h = refl
 not_two Two h = absurd (h refl)
 not_two Parted h = refl
 
--- ---- two rows, whose first exchange has stopped the move
-module _ (k : Kind) {s : Shape} {t u t₁ u₁ : List Float} {m a : Moving} {next : ℕ} where
-  pub first_down_halts : next ≡ Move.size_at binary64 s.ld s.n t (m.here + 2) → Takes s t u m t₁ u₁ (Err a) (trying k (m.here + 1) 1 next) → Takes s t u m t₁ u₁ (Err a) (apart_down k binary64 s.ld s.n)
-  unfolding apart_down
-  first_down_halts e f u₀ M a =
-      stood_as (rw (← a.step.done.form, ← a.here, ← e))
-      (halts (λ (e : Move.Moving). cond (eqb next 1) (onward (trying k m.here 1 1 e) (λ (d : Move.Moving). goes (Move.arrived (m.here + 1) d))) (past_two_down k binary64 s.ld s.n e)) f u₀ M a)
+-- ---- where a step of model's goes by cases
+module _ {s : Shape} {t u t₁ u₁ : List Float} {m : Moving} {r : Result Moving Moving} (P Q : Move.Moving → Stopping.Going) where
+  pub is_parted : m.block ≡ Parted → Takes s t u m t₁ u₁ r P → Takes s t u m t₁ u₁ r (λ (M : Move.Moving). cond (eqb M.nbf 3) (P M) (Q M))
+  is_parted e f u₀ M a = stood_as (rw (← a.nbf, e)) (f u₀ M a)
 
-  pub first_up_halts : next ≡ Move.size_above binary64 s.ld t m.here → Takes s t u m t₁ u₁ (Err a) (trying k (m.here - next) next 1) → Takes s t u m t₁ u₁ (Err a) (apart_up k binary64 s.ld s.n)
-  unfolding apart_up
-  first_up_halts e f u₀ M a =
-      stood_as (rw (← a.step.done.form, ← a.here, ← e))
-      (halts (λ (e : Move.Moving). cond (eqb next 1) (onward (trying k m.here 1 1 e) (λ (d : Move.Moving). goes (Move.arrived (m.here - 1) d))) (past_two_up k binary64 s.ld s.n e)) f u₀ M a)
+  pub is_block : eqb (number m.block) 3 ≡ false → Takes s t u m t₁ u₁ r Q → Takes s t u m t₁ u₁ r (λ (M : Move.Moving). cond (eqb M.nbf 3) (P M) (Q M))
+  is_block e f u₀ M a = stood_as (rw (← a.nbf, e)) (f u₀ M a)
 
--- ---- the steps by the code's tests, on the row and the form as they stand
+  pub is_one : (next : ℕ) → next ≡ 1 → Takes s t u m t₁ u₁ r P → Takes s t u m t₁ u₁ r (λ (M : Move.Moving). cond (eqb next 1) (P M) (Q M))
+  is_one next e f u₀ M a = stood_as (rw e) (f u₀ M a)
+
+  pub is_two : (next : ℕ) → (next ≡ 1 → ⊥) → Takes s t u m t₁ u₁ r Q → Takes s t u m t₁ u₁ r (λ (M : Move.Moving). cond (eqb next 1) (P M) (Q M))
+  is_two next e f u₀ M a = stood_as (rw (ne_eqb next 1 e)) (f u₀ M a)
+
+-- ---- the steps by what the code reads, on the row and the form as they stand
 module _ (k : Kind) {s : Shape} {t u t₁ u₁ : List Float} {m : Moving} {r : Result Moving Moving} where
   pub whole_down-is : {next : ℕ} (b : ℕ) → b ≡ number m.block → next ≡ Move.size_at binary64 s.ld s.n t (m.here + b)
       → Takes s t u m t₁ u₁ r (λ (M : Move.Moving). onward (trying k m.here b next M) (λ (e : Move.Moving). goes (Move.landed_whole binary64 s.ld (m.here + next) e)))
@@ -109,36 +110,17 @@ module _ (k : Kind) {s : Shape} {t u t₁ u₁ : List Float} {m : Moving} {r : R
   unfolding whole_down
   whole_down-is b i e f u₀ M a = stood_as (rw (e, i, a.step.done.form, a.here, a.nbf)) (f u₀ M a)
 
-  pub split-down : zero_below binary64 s.ld t (m.here + 1) ≡ true
-      → Takes s t u m t₁ u₁ r (λ (M : Move.Moving). onward (onward (trying k m.here 1 1 M) (trying k (m.here + 1) 1 1)) (λ (e : Move.Moving). goes (Move.arrived (m.here + 2) e)))
+  pub past_two_down_is : (split : Bool) → zero_below binary64 s.ld t (m.here + 1) ≡ split
+      → Takes s t u m t₁ u₁ r (λ (M : Move.Moving). onward (cond split (onward (trying k m.here 1 1 M) (trying k (m.here + 1) 1 1)) (trying k m.here 1 2 M)) (λ (e : Move.Moving). goes (Move.arrived (m.here + 2) e)))
       → Takes s t u m t₁ u₁ r (past_two_down k binary64 s.ld s.n)
   unfolding past_two_down
-  split-down e f u₀ M a = stood_as (rw (← a.step.done.form, ← a.here, e)) (f u₀ M a)
+  past_two_down_is split e f u₀ M a = stood_as (rw (← a.step.done.form, ← a.here, e)) (f u₀ M a)
 
-  pub two_down : zero_below binary64 s.ld t (m.here + 1) ≡ false
-      → Takes s t u m t₁ u₁ r (λ (M : Move.Moving). onward (trying k m.here 1 2 M) (λ (e : Move.Moving). goes (Move.arrived (m.here + 2) e)))
-      → Takes s t u m t₁ u₁ r (past_two_down k binary64 s.ld s.n)
-  unfolding past_two_down
-  two_down e f u₀ M a = stood_as (rw (← a.step.done.form, ← a.here, e)) (f u₀ M a)
-
-  pub one_down_is : {next : ℕ} → next ≡ Move.size_at binary64 s.ld s.n t (m.here + 2) → next ≡ 1
-      → Takes s t u m t₁ u₁ r (λ (M : Move.Moving). onward (trying k (m.here + 1) 1 next M) (λ (e : Move.Moving). onward (trying k m.here 1 1 e) (λ (d : Move.Moving). goes (Move.arrived (m.here + 1) d))))
+  pub apart_down_is : {next : ℕ} → next ≡ Move.size_at binary64 s.ld s.n t (m.here + 2)
+      → Takes s t u m t₁ u₁ r (λ (M : Move.Moving). onward (trying k (m.here + 1) 1 next M) (λ (e : Move.Moving). cond (eqb next 1) (onward (trying k m.here 1 1 e) (λ (d : Move.Moving). goes (Move.arrived (m.here + 1) d))) (past_two_down k binary64 s.ld s.n e)))
       → Takes s t u m t₁ u₁ r (apart_down k binary64 s.ld s.n)
   unfolding apart_down
-  one_down_is e i f u₀ M a = stood_as (rw (← a.step.done.form, ← a.here, ← e, i)) (f u₀ M a)
-
-  pub past_down_is : {next : ℕ} → next ≡ Move.size_at binary64 s.ld s.n t (m.here + 2) → (next ≡ 1 → ⊥)
-      → Takes s t u m t₁ u₁ r (λ (M : Move.Moving). onward (trying k (m.here + 1) 1 next M) (past_two_down k binary64 s.ld s.n)) → Takes s t u m t₁ u₁ r (apart_down k binary64 s.ld s.n)
-  unfolding apart_down
-  past_down_is {next} e i f u₀ M a = stood_as (rw (← a.step.done.form, ← a.here, ← e, ne_eqb next 1 i)) (f u₀ M a)
-
-  pub apart_down-is : m.block ≡ Parted → Takes s t u m t₁ u₁ r (apart_down k binary64 s.ld s.n) → Takes s t u m t₁ u₁ r (step_down k binary64 s.ld s.n)
-  unfolding step_down
-  apart_down-is e f u₀ M a = stood_as (rw (← a.nbf, e)) (f u₀ M a)
-
-  pub block_down_is : eqb (number m.block) 3 ≡ false → Takes s t u m t₁ u₁ r (whole_down k binary64 s.ld s.n) → Takes s t u m t₁ u₁ r (step_down k binary64 s.ld s.n)
-  unfolding step_down
-  block_down_is e f u₀ M a = stood_as (rw (← a.nbf, e)) (f u₀ M a)
+  apart_down_is e f u₀ M a = stood_as (rw (← a.step.done.form, ← a.here, ← e)) (f u₀ M a)
 
   pub whole_up-is : {next : ℕ} (b : ℕ) → b ≡ number m.block → next ≡ Move.size_above binary64 s.ld t m.here
       → Takes s t u m t₁ u₁ r (λ (M : Move.Moving). onward (trying k (m.here - next) next b M) (λ (e : Move.Moving). goes (Move.landed_whole binary64 s.ld (m.here - next) e)))
@@ -146,36 +128,17 @@ module _ (k : Kind) {s : Shape} {t u t₁ u₁ : List Float} {m : Moving} {r : R
   unfolding whole_up
   whole_up-is b i e f u₀ M a = stood_as (rw (e, i, a.step.done.form, a.here, a.nbf)) (f u₀ M a)
 
-  pub split_up : zero_below binary64 s.ld t (m.here - 1) ≡ true
-      → Takes s t u m t₁ u₁ r (λ (M : Move.Moving). onward (onward (trying k m.here 1 1 M) (trying k (m.here - 1) 1 1)) (λ (e : Move.Moving). goes (Move.arrived (m.here - 2) e)))
+  pub past_two_up_is : (split : Bool) → zero_below binary64 s.ld t (m.here - 1) ≡ split
+      → Takes s t u m t₁ u₁ r (λ (M : Move.Moving). onward (cond split (onward (trying k m.here 1 1 M) (trying k (m.here - 1) 1 1)) (trying k (m.here - 1) 2 1 M)) (λ (e : Move.Moving). goes (Move.arrived (m.here - 2) e)))
       → Takes s t u m t₁ u₁ r (past_two_up k binary64 s.ld s.n)
   unfolding past_two_up
-  split_up e f u₀ M a = stood_as (rw (← a.step.done.form, ← a.here, e)) (f u₀ M a)
+  past_two_up_is split e f u₀ M a = stood_as (rw (← a.step.done.form, ← a.here, e)) (f u₀ M a)
 
-  pub two_up : zero_below binary64 s.ld t (m.here - 1) ≡ false
-      → Takes s t u m t₁ u₁ r (λ (M : Move.Moving). onward (trying k (m.here - 1) 2 1 M) (λ (e : Move.Moving). goes (Move.arrived (m.here - 2) e)))
-      → Takes s t u m t₁ u₁ r (past_two_up k binary64 s.ld s.n)
-  unfolding past_two_up
-  two_up e f u₀ M a = stood_as (rw (← a.step.done.form, ← a.here, e)) (f u₀ M a)
-
-  pub one_up_is : {next : ℕ} → next ≡ Move.size_above binary64 s.ld t m.here → next ≡ 1
-      → Takes s t u m t₁ u₁ r (λ (M : Move.Moving). onward (trying k (m.here - next) next 1 M) (λ (e : Move.Moving). onward (trying k m.here 1 1 e) (λ (d : Move.Moving). goes (Move.arrived (m.here - 1) d))))
+  pub apart_up_is : {next : ℕ} → next ≡ Move.size_above binary64 s.ld t m.here
+      → Takes s t u m t₁ u₁ r (λ (M : Move.Moving). onward (trying k (m.here - next) next 1 M) (λ (e : Move.Moving). cond (eqb next 1) (onward (trying k m.here 1 1 e) (λ (d : Move.Moving). goes (Move.arrived (m.here - 1) d))) (past_two_up k binary64 s.ld s.n e)))
       → Takes s t u m t₁ u₁ r (apart_up k binary64 s.ld s.n)
   unfolding apart_up
-  one_up_is e i f u₀ M a = stood_as (rw (← a.step.done.form, ← a.here, ← e, i)) (f u₀ M a)
-
-  pub past_up_is : {next : ℕ} → next ≡ Move.size_above binary64 s.ld t m.here → (next ≡ 1 → ⊥)
-      → Takes s t u m t₁ u₁ r (λ (M : Move.Moving). onward (trying k (m.here - next) next 1 M) (past_two_up k binary64 s.ld s.n)) → Takes s t u m t₁ u₁ r (apart_up k binary64 s.ld s.n)
-  unfolding apart_up
-  past_up_is {next} e i f u₀ M a = stood_as (rw (← a.step.done.form, ← a.here, ← e, ne_eqb next 1 i)) (f u₀ M a)
-
-  pub apart_up-is : m.block ≡ Parted → Takes s t u m t₁ u₁ r (apart_up k binary64 s.ld s.n) → Takes s t u m t₁ u₁ r (step_up k binary64 s.ld s.n)
-  unfolding step_up
-  apart_up-is e f u₀ M a = stood_as (rw (← a.nbf, e)) (f u₀ M a)
-
-  pub block_up_is : eqb (number m.block) 3 ≡ false → Takes s t u m t₁ u₁ r (whole_up k binary64 s.ld s.n) → Takes s t u m t₁ u₁ r (step_up k binary64 s.ld s.n)
-  unfolding step_up
-  block_up_is e f u₀ M a = stood_as (rw (← a.nbf, e)) (f u₀ M a)
+  apart_up_is e f u₀ M a = stood_as (rw (← a.step.done.form, ← a.here, ← e)) (f u₀ M a)
 
 -- ---- the whole walk
 abbrev start : Shape → List Float → ℕ → Move.Moving

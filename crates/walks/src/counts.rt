@@ -12,7 +12,7 @@ pub struct Counts {
 }
 
 impl Counts {
-    // Those of one run.
+    // The counts of one run.
     pub fn of_one(declined: bool) -> Counts
         ensures { result ≡ record { swaps = 1; declined = cond declined 1 0 } }
     {

@@ -1,32 +1,33 @@
-// A move on its way: one exchange of a kind, and one step down or up.
-ghost use Rattle.std.specs.Prelude.{◌≡◌, ℕ, ◌+◌, ◌-◌, ◌≤◌, ◌<◌, List, Float, IfOk};
+// A move on its way: one exchange of a kind, and one step down or up. Down and up have functions of their own, as in
+// model: they take their rows from below or above, and two rows in the other order, so that of one function for
+// both hardly a line would be without its direction.
+ghost use Rattle.std.specs.Prelude.{◌≡◌, ℕ, ◌+◌, ◌-◌, ◌*◌, ◌≤◌, ◌<◌, List, Float, IfOk};
 ghost use Rattle.std.specs.Float.{binary64};
 ghost use Rattle.model.specs.Move as Move;
 ghost use Rattle.model.specs.Stopping as Stopping;
 ghost use Rattle.form.specs.Run.{Rows};
 ghost use Rattle.form.specs.Shaped.{Holds, Beside};
+ghost use Rattle.swaps.specs.Inside.{Fits};
 ghost use Rattle.walks.specs.Kinds.{Made};
 ghost use Rattle.walks.specs.Stands.{Stands, Takes, Few, More, rows, number};
 
 use crate::counts::Counts;
 use form::shape::Shape;
+use swaps::neighbours::Neighbours;
 
 // How a move makes its exchanges, and where it stops.
 pub trait Kind {
     ghost kind: { ℕ → ℕ → Stopping.Kind };
 
-    // The exchange of the n1 rows from row j on with the n2 below them: Err where it has declined and the move
-    // stops at that.
-    fn exchange(
-        s: Shape,
-        t: &mut [f64],
-        u: &mut [f64],
-        j: usize,
-        n1: usize,
-        n2: usize,
-    ) -> Result<Counts, Counts>
-        requires { Holds s t.old × Beside s u.old × Rows s.n j n1 n2 }
-        ensures { Made (kind s.ld s.n) s j n1 n2 t.old u.old t.new u.new result };
+    // How many swaps an exchange runs at most.
+    ghost most: { ℕ };
+
+    // The exchange of neighbouring blocks: Err where it has declined and the move stops at that.
+    fn exchange(s: Shape, t: &mut [f64], u: &mut [f64], b: Neighbours) -> Result<Counts, Counts>
+        requires { Holds s t.old × Beside s u.old × Fits s b }
+        ensures { Made (kind s.ld s.n) most s b t.old u.old t.new u.new result };
+
+    ghost few: { most ≤ 4 };
 }
 
 // What is moved: one row, a 2-block, or the two rows of a 2-block that has split.
@@ -94,8 +95,8 @@ impl Moving {
     }
 }
 
-// One exchange more: the row stays, and is moved on where the step ends. In line, so that the numbers of a
-// move stay in registers.
+// One exchange more: the row stays, and is moved on where the step ends. Its blocks are three numbers, made
+// Neighbours here and not at each place that calls it. In line, so that the numbers of a move stay in registers.
 #[inline(always)]
 fn trying<K: Kind>(
     s: Shape,
@@ -108,9 +109,9 @@ fn trying<K: Kind>(
 ) -> Result<Moving, Moving>
     requires { Holds s t.old × Beside s u.old × Rows s.n j n1 n2 × Few 2000 m }
     ensures stands { Takes s t.old u.old m t.new u.new result (Stopping.trying (K.kind s.ld s.n) j n1 n2) }
-    ensures counts { IfOk result (λ r. (r.here ≡ m.here) × More 4 m r) }
+    ensures counts { IfOk result (λ r. (r.here ≡ m.here) × More K.most m r) }
 {
-    match K::exchange(s, t, u, j, n1, n2) {
+    match K::exchange(s, t, u, Neighbours { row: j, n1, n2 }) {
         Ok(c) => Ok(Moving {
             counts: m.counts + c,
             ..m
@@ -126,7 +127,7 @@ fn trying<K: Kind>(
 fn whole_down<K: Kind>(s: Shape, t: &mut [f64], u: &mut [f64], m: Moving) -> Result<Moving, Moving>
     requires { Holds s t.old × Beside s u.old × Few 1000 m × (rows m.block ≡ number m.block) × (m.here + rows m.block < s.n) }
     ensures stands { Takes s t.old u.old m t.new u.new result (Stopping.whole_down (K.kind s.ld s.n) binary64 s.ld s.n) }
-    ensures counts { IfOk result (λ r. (m.here < r.here) × (r.here + rows m.block ≤ s.n) × More 4 m r) }
+    ensures counts { IfOk result (λ r. (m.here < r.here) × (r.here + rows m.block ≤ s.n) × More K.most m r) }
 {
     let rows = m.block.rows();
     let next = s.size_at(t, m.here + rows);
@@ -134,7 +135,8 @@ fn whole_down<K: Kind>(s: Shape, t: &mut [f64], u: &mut [f64], m: Moving) -> Res
     Ok(e.landed_whole(s, t, m.here + next))
 }
 
-// Past a 2-block that the lower row has passed, and that may have split at that.
+// The upper row past a 2-block that the lower row has passed, or past each of its rows where that exchange
+// has split it.
 fn past_two_down<K: Kind>(
     s: Shape,
     t: &mut [f64],
@@ -143,7 +145,7 @@ fn past_two_down<K: Kind>(
 ) -> Result<Moving, Moving>
     requires { Holds s t.old × Beside s u.old × Few 1100 m × (m.here + 4 ≤ s.n) }
     ensures stands { Takes s t.old u.old m t.new u.new result (Stopping.past_two_down (K.kind s.ld s.n) binary64 s.ld s.n) }
-    ensures counts { IfOk result (λ r. (r.here ≡ m.here + 2) × More 8 m r) }
+    ensures counts { IfOk result (λ r. (r.here ≡ m.here + 2) × More (2 * K.most) m r) }
 {
     let here = m.here;
     if s.zero_below(t, here + 1) {
@@ -159,7 +161,7 @@ fn past_two_down<K: Kind>(
 fn apart_down<K: Kind>(s: Shape, t: &mut [f64], u: &mut [f64], m: Moving) -> Result<Moving, Moving>
     requires { Holds s t.old × Beside s u.old × Few 1000 m × (m.here + 3 ≤ s.n) }
     ensures stands { Takes s t.old u.old m t.new u.new result (Stopping.apart_down (K.kind s.ld s.n) binary64 s.ld s.n) }
-    ensures counts { IfOk result (λ r. (m.here < r.here) × (r.here + 2 ≤ s.n) × More 12 m r) }
+    ensures counts { IfOk result (λ r. (m.here < r.here) × (r.here + 2 ≤ s.n) × More (3 * K.most) m r) }
 {
     let here = m.here;
     let next = s.size_at(t, here + 2);
@@ -180,7 +182,7 @@ pub(crate) fn step_down<K: Kind>(
 ) -> Result<Moving, Moving>
     requires { Holds s t.old × Beside s u.old × Few 1000 m × (m.here + rows m.block < s.n) }
     ensures stands { Takes s t.old u.old m t.new u.new result (Stopping.step_down (K.kind s.ld s.n) binary64 s.ld s.n) }
-    ensures counts { IfOk result (λ r. (m.here < r.here) × (r.here + rows m.block ≤ s.n) × More 12 m r) }
+    ensures counts { IfOk result (λ r. (m.here < r.here) × (r.here + rows m.block ≤ s.n) × More (3 * K.most) m r) }
 {
     match m.block {
         Block::Parted => apart_down::<K>(s, t, u, m),
@@ -192,7 +194,7 @@ pub(crate) fn step_down<K: Kind>(
 fn whole_up<K: Kind>(s: Shape, t: &mut [f64], u: &mut [f64], m: Moving) -> Result<Moving, Moving>
     requires { Holds s t.old × Beside s u.old × Few 1000 m × (rows m.block ≡ number m.block) × (0 < m.here) × (m.here + rows m.block ≤ s.n) }
     ensures stands { Takes s t.old u.old m t.new u.new result (Stopping.whole_up (K.kind s.ld s.n) binary64 s.ld s.n) }
-    ensures counts { IfOk result (λ r. (r.here < m.here) × More 4 m r) }
+    ensures counts { IfOk result (λ r. (r.here < m.here) × More K.most m r) }
 {
     let rows = m.block.rows();
     let next = s.size_above(t, m.here);
@@ -201,11 +203,12 @@ fn whole_up<K: Kind>(s: Shape, t: &mut [f64], u: &mut [f64], m: Moving) -> Resul
     Ok(e.landed_whole(s, t, to))
 }
 
-// Past a 2-block that the upper row has passed, and that may have split at that.
+// The lower row past a 2-block that the upper row has passed, or past each of its rows where that exchange
+// has split it.
 fn past_two_up<K: Kind>(s: Shape, t: &mut [f64], u: &mut [f64], m: Moving) -> Result<Moving, Moving>
     requires { Holds s t.old × Beside s u.old × Few 1100 m × (2 ≤ m.here) × (m.here + 2 ≤ s.n) }
     ensures stands { Takes s t.old u.old m t.new u.new result (Stopping.past_two_up (K.kind s.ld s.n) binary64 s.ld s.n) }
-    ensures counts { IfOk result (λ r. (r.here ≡ m.here - 2) × More 8 m r) }
+    ensures counts { IfOk result (λ r. (r.here ≡ m.here - 2) × More (2 * K.most) m r) }
 {
     let here = m.here;
     if s.zero_below(t, here - 1) {
@@ -221,7 +224,7 @@ fn past_two_up<K: Kind>(s: Shape, t: &mut [f64], u: &mut [f64], m: Moving) -> Re
 fn apart_up<K: Kind>(s: Shape, t: &mut [f64], u: &mut [f64], m: Moving) -> Result<Moving, Moving>
     requires { Holds s t.old × Beside s u.old × Few 1000 m × (0 < m.here) × (m.here + 2 ≤ s.n) }
     ensures stands { Takes s t.old u.old m t.new u.new result (Stopping.apart_up (K.kind s.ld s.n) binary64 s.ld s.n) }
-    ensures counts { IfOk result (λ r. (r.here < m.here) × More 12 m r) }
+    ensures counts { IfOk result (λ r. (r.here < m.here) × More (3 * K.most) m r) }
 {
     let here = m.here;
     let next = s.size_above(t, here);
@@ -242,7 +245,7 @@ pub(crate) fn step_up<K: Kind>(
 ) -> Result<Moving, Moving>
     requires { Holds s t.old × Beside s u.old × Few 1000 m × (0 < m.here) × (m.here + rows m.block ≤ s.n) }
     ensures stands { Takes s t.old u.old m t.new u.new result (Stopping.step_up (K.kind s.ld s.n) binary64 s.ld s.n) }
-    ensures counts { IfOk result (λ r. (r.here < m.here) × More 12 m r) }
+    ensures counts { IfOk result (λ r. (r.here < m.here) × More (3 * K.most) m r) }
 {
     match m.block {
         Block::Parted => apart_up::<K>(s, t, u, m),

@@ -1,4 +1,4 @@
-// The walk of a block, of either kind.
+// The walk of a block, with exchanges of either kind.
 ghost use Rattle.std.specs.Prelude.{◌+◌, ◌*◌, ◌≤◌, ◌<◌};
 ghost use Rattle.std.specs.Float.{binary64};
 ghost use Rattle.model.specs.Stopping as Stopping;

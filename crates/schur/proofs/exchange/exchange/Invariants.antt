@@ -8,10 +8,10 @@ use Rattle.schur.specs.Todo.{waiting}
 use Rattle.schur.proofs.Exchanges.{Reached, left}
 use Rattle.schur.proofs.exchange.exchange.Given as goal
 
-abbrev pub invariant-loop-row : goal.invariant-loop-row
-invariant-loop-row l =
+abbrev pub invariant-loop-b : goal.invariant-loop-b
+invariant-loop-b l =
     (length l.t ≡ length l.initial.t)
-    × Reached l.s.ld l.s.n l.initial.u l.t l.u (waiting l.todo.items) l.counts.swaps l.counts.declined (exchange binary64 l.s.ld l.s.n l.fn.j l.fn.n1 l.fn.n2 l.initial.t)
+    × Reached l.s.ld l.s.n l.initial.u l.t l.u (waiting l.todo.items) l.counts.swaps l.counts.declined (exchange binary64 l.s.ld l.s.n l.fn.b.row l.fn.b.n1 l.fn.b.n2 l.initial.t)
 
-abbrev pub decreases-loop-row : goal.decreases-loop-row
-decreases-loop-row l = left (waiting l.todo.items)
+abbrev pub decreases-loop-b : goal.decreases-loop-b
+decreases-loop-b l = left (waiting l.todo.items)

@@ -1,20 +1,21 @@
 -- `schur::exchange::exchange_straight` meets its contract. Assumes nothing.
-use Prim.Native.Nat.{ℕ, ◌+◌}
+use Prim.Native.Nat.{◌+◌}
 use mathlib.Core.Path.{◌≡◌}
 use native.Mathlib.Omega.{arith}
 use lib.Dec.{lit≤}
-use Rattle.form.specs.Run.{Rows}
+use Rattle.swaps.specs.declared.neighbours.Neighbours.{Neighbours}
 use Rattle.schur.proofs.Exchanges.{single_step}
 use Rattle.schur.proofs.exchange.exchange_straight.Goals as goal
 
-first : {n j n1 n2 : ℕ} → Rows n j n1 n2 → n1 + n2 ≡ 2 → n1 ≡ 1
-first r e = let a = r.one1 in let b = r.one2 in omega arith
+first : (b : Neighbours) → b.n1 + b.n2 ≡ 2 → b.n1 ≡ 1
+first b e = omega (arith, b.one1, b.one2)
 
-second : {n j n1 n2 : ℕ} → Rows n j n1 n2 → n1 + n2 ≡ 2 → n2 ≡ 1
-second r e = let a = r.one1 in let b = r.one2 in omega arith
+second : (b : Neighbours) → b.n1 + b.n2 ≡ 2 → b.n2 ≡ 1
+second b e = omega (arith, b.one1, b.one2)
 
-pub returns-then-n1-n2-eq2 : goal.returns-then-n1-n2-eq2
-returns-then-n1-n2-eq2 c =
+pub returns-then-b-eq2 : goal.returns-then-b-eq2
+returns-then-b-eq2 c =
     let x = c.schur_swap_11 in
-    let r = c.requires.2 in
-    rw (first r c.if-n1-n2-eq2.true, second r c.if-n1-n2-eq2.true, c.of_one.ensures) (single_step _ _ _ _ x.ensures x.auto.u, lit≤ tt, lit≤ tt)
+    let b = c.args.b in
+    let e = c.if-b-eq2.true in
+    rw (first b e, second b e, c.of_one.ensures) (single_step _ _ _ _ x.ensures x.auto.u, lit≤ tt, lit≤ tt)

@@ -17,7 +17,7 @@ pub returns : goal.returns
 unfolding swap_of swap11 swap12 swap21 declines_in
 returns c =
     rw c.of_one.ensures
-    (elim c.match-n1.branch [
+    (elim c.match-b.branch [
       | in-1-eq1 w ↦ rw (w.t-is, w.u-is, w.declined-is, w.in-1-eq1.is-0, w.in-1-eq1.is-1) (record { done = w.schur_swap_11.ensures; swaps = refl; declined = refl }, refl, lit≤ tt)
       | in-1-default w ↦ rw (w.t-is, w.u-is, w.declined-is, w.in-1-default.is-0, ne_eqb _ _ w.in-1-default.is-1.1) (record { done = w.schur_swap_12.ensures; swaps = refl; declined = refl }, refl, lit≤ tt)
       | in_default-eq1 w ↦ rw (w.t-is, w.u-is, w.declined-is, ne_eqb _ _ w.in_default-eq1.is-0.1, w.in_default-eq1.is-1) (record { done = w.schur_swap_21.ensures; swaps = refl; declined = refl }, refl, lit≤ tt)

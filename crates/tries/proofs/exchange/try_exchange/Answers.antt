@@ -7,10 +7,10 @@ use Rattle.form.proofs.Runs.{still}
 use Rattle.tries.proofs.Tries.{one1, one2, failed, passed, whole, single}
 use Rattle.tries.proofs.exchange.try_exchange.Goals as goal
 
-pub returns-then-n1-n2-eq2 : goal.returns-then-n1-n2-eq2
+pub returns-then-b-eq2 : goal.returns-then-b-eq2
 unfolding test_fails
-returns-then-n1-n2-eq2 c =
-    rw (one1 c.requires.2 c.if-n1-n2-eq2.true, one2 c.requires.2 c.if-n1-n2-eq2.true) (whole _ _ _ 1 1 _ false (single _ _ _ _ c.schur_swap_11.ensures c.schur_swap_11.auto.u) refl)
+returns-then-b-eq2 c =
+    rw (one1 c.args.b c.if-b-eq2.true, one2 c.args.b c.if-b-eq2.true) (whole _ _ _ 1 1 _ false (single _ _ _ _ c.schur_swap_11.ensures c.schur_swap_11.auto.u) refl)
 
 pub returns-then-try_swap : goal.returns-then-try_swap
 returns-then-try_swap c =
@@ -22,7 +22,6 @@ pub standardise_also-requires : goal.standardise_also-requires
 standardise_also-requires c =
     let h = c.requires in
     let k = c.try_swap.auto in
-    let r = h.2 in
     (k.t ∙ h.0, still c.args.s h.1 k.u, omega arith)
 
 pub standardise_also-requires-2 : goal.standardise_also-requires-2
@@ -30,7 +29,6 @@ standardise_also-requires-2 c =
     let h = c.requires in
     let k = c.try_swap.auto in
     let m = c.standardise_also.auto in
-    let r = h.2 in
     (m.t ∙ k.t ∙ h.0, still c.args.s h.1 (m.u ∙ k.u), omega arith)
 
 pub returns : goal.returns

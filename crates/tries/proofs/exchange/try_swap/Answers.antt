@@ -4,16 +4,16 @@ use Rattle.model.specs.Stopping.{test_fails}
 use Rattle.tries.proofs.Tries.{two1, two2, below_one, pair}
 use Rattle.tries.proofs.exchange.try_swap.Goals as goal
 
-pub returns-then-n1-eq1 : goal.returns-then-n1-eq1
+pub returns-then-b-eq1 : goal.returns-then-b-eq1
 unfolding test_fails swap_of
-returns-then-n1-eq1 c =
-    rw (c.if-n1-eq1.true, below_one c.requires.2 c.requires.3 c.if-n1-eq1.true) c.try_3.ensures
+returns-then-b-eq1 c =
+    rw (c.if-b-eq1.true, below_one c.args.b c.requires.3 c.if-b-eq1.true) c.try_3.ensures
 
-pub returns-then-n2-eq1 : goal.returns-then-n2-eq1
+pub returns-then-b-eq1-2 : goal.returns-then-b-eq1-2
 unfolding test_fails swap_of
-returns-then-n2-eq1 c =
-    rw (two1 c.requires.2 c.if-n1-eq1.false, c.if-n2-eq1.true) c.try_3-then-n2-eq1.ensures
+returns-then-b-eq1-2 c =
+    rw (two1 c.args.b c.if-b-eq1.false, c.if-b-eq1-2.true) c.try_3-then-b-eq1-2.ensures
 
 pub returns : goal.returns
 returns c =
-    rw (two1 c.requires.2 c.if-n1-eq1.false, two2 c.requires.2 c.if-n2-eq1.false) (pair _ _ _ _ c.schur_swap_22.ensures.0 c.schur_swap_22.ensures.1)
+    rw (two1 c.args.b c.if-b-eq1.false, two2 c.args.b c.if-b-eq1-2.false) (pair _ _ _ _ c.schur_swap_22.ensures.0 c.schur_swap_22.ensures.1)

@@ -1,23 +1,23 @@
 -- `walks::moving::apart_up` meets its contract. Assumes nothing.
 use mathlib.Core.Path.{◌≡◌}
 use Rattle.std.proofs.Common.{rules, Err}
-use Rattle.walks.proofs.Ways.{halts, follows, arrives, first_up_halts, one_up_is, past_up_is}
+use Rattle.walks.proofs.Ways.{halts, follows, arrives, is_one, is_two, apart_up_is}
 use Rattle.walks.proofs.moving.apart_up.Goals as goal
 
 pub returns-in_err-above-clause-stands : goal.returns-in_err-above-clause-stands
 returns-in_err-above-clause-stands g c =
     let x : c.from_residual.result ≡ Err c.in_err-above.field-0.0 = search rules in
-    rw x (first_up_halts _ c.size_above-next.ensures.0 c.in_err-above.ensures.stands)
+    rw x (apart_up_is _ c.size_above-next.ensures.0 (halts _ c.in_err-above.ensures.stands))
 
 pub returns-in_err-a-clause-stands : goal.returns-in_err-a-clause-stands
 returns-in_err-a-clause-stands g c =
     let x : c.from_residual-in_err-a.result ≡ Err c.in_err-a.field-0.0 = search rules in
-    rw x (one_up_is _ c.size_above-next.ensures.0 c.if-next-eq1.true (follows _ c.in_ok-above.ensures.stands (halts _ c.in_err-a.ensures.stands)))
+    rw x (apart_up_is _ c.size_above-next.ensures.0 (follows _ c.in_ok-above.ensures.stands (is_one _ _ _ c.if-next-eq1.true (halts _ c.in_err-a.ensures.stands))))
 
 pub returns-then-next-eq1-clause-stands : goal.returns-then-next-eq1-clause-stands
 returns-then-next-eq1-clause-stands g c =
-    one_up_is _ c.size_above-next.ensures.0 c.if-next-eq1.true (follows _ c.in_ok-above.ensures.stands (follows _ c.in_ok-a.ensures.stands (arrives c.arrived.ensures)))
+    apart_up_is _ c.size_above-next.ensures.0 (follows _ c.in_ok-above.ensures.stands (is_one _ _ _ c.if-next-eq1.true (follows _ c.in_ok-a.ensures.stands (arrives c.arrived.ensures))))
 
 pub returns-clause-stands : goal.returns-clause-stands
 returns-clause-stands g c =
-    past_up_is _ c.size_above-next.ensures.0 c.if-next-eq1.false (follows _ c.in_ok-above.ensures.stands c.past_two_up.ensures.stands)
+    apart_up_is _ c.size_above-next.ensures.0 (follows _ c.in_ok-above.ensures.stands (is_two _ _ _ c.if-next-eq1.false c.past_two_up.ensures.stands))
