@@ -1,6 +1,8 @@
 // The vectors of a form: evd_from_real_schur.
-ghost use Rattle.std.specs.Prelude.{◌≡◌, ◌+◌, ◌*◌, ◌<◌, ◌≤◌, length};
+ghost use Rattle.std.specs.Prelude.{◌≡◌, ◌+◌, ◌*◌, ◌<◌, ◌≤◌, length, fold, Float};
 ghost use Rattle.std.specs.Float.{binary64};
+ghost use Rattle.std.specs.Float.Ieee.{add};
+ghost use Rattle.model.specs.Arith as Arith;
 ghost use Rattle.model.specs.Values.{imag_size_at};
 ghost use Rattle.model.specs.Vectors as Vectors;
 ghost use Rattle.refusal.specs.Line.{answer};
@@ -18,15 +20,10 @@ use solve::solve_real::solve_real_shifted_upper_quasi_triangular_system;
 use solve::walk::{EachBlock, blocks_down};
 
 // norm plus the magnitudes of the numbers.
-#[tactic(auto, using(crate::proofs::Sums::one_more, solve::proofs::Left::left_none), unfolding(model::specs::Vectors::sum_from))]
 fn add_magnitudes(xs: &[f64], norm: f64) -> f64
-    ensures { result ≡ Vectors.sum_from binary64 xs.now 0 (length xs.now) 0 norm }
+    ensures { result ≡ fold (λ (a x : Float). add binary64 a (Arith.abs1 x)) norm xs.now }
 {
-    let mut acc = norm;
-    for x in xs {
-        acc += abs1(*x);
-    }
-    acc
+    xs.iter().fold(norm, |a, x| a + abs1(*x))
 }
 
 // The sum of magnitudes, column after column, each down to the subdiagonal.
@@ -114,6 +111,18 @@ struct Columns<'a> {
 }
 
 impl Columns<'_> {
+    // The matrix of the first rows and columns.
+    fn leading(&self, rows: usize) -> Leading
+        requires { rows ≤ self.now.s.n }
+        ensures { (result.ld ≡ self.now.s.ld) × (result.n ≡ rows) × (result.a.now ≡ self.now.t.now) }
+    {
+        Leading {
+            ld: self.s.ld,
+            n: rows,
+            a: self.t,
+        }
+    }
+
     // A 2-block's columns j and j + 1, before the rows above it are solved for; its imaginary size.
     #[tactic(auto, using(crate::proofs::Places::side_by_side), unfolding(model::specs::Vectors::open_columns))]
     fn open_columns(&self, j: usize, v: &mut [f64]) -> f64
@@ -148,13 +157,8 @@ impl EachBlock for Columns<'_> {
         s.put(&mut *v, k, k, 1.0);
         let top = s.place(0, k);
         negate_run(self.t, top, k, &mut *v);
-        let a = Leading {
-            ld: s.ld,
-            n: k,
-            a: self.t,
-        };
         let x = &mut v[top..top + k];
-        solve_real_shifted_upper_quasi_triangular_system(a, p, self.norm, x);
+        solve_real_shifted_upper_quasi_triangular_system(self.leading(k), p, self.norm, x);
     }
 
     // A 2-block's columns j and j + 1: the real and the imaginary part.
@@ -164,13 +168,8 @@ impl EachBlock for Columns<'_> {
         let q = self.open_columns(j, &mut *v);
         let p = s.get(self.t, j + 1, j + 1);
         let top = s.place(0, j);
-        let a = Leading {
-            ld: s.ld,
-            n: j,
-            a: self.t,
-        };
         let x = &mut v[top..top + (s.ld + j)];
-        solve_cplx_shifted_upper_quasi_triangular_system(a, p, q, self.norm, x);
+        solve_cplx_shifted_upper_quasi_triangular_system(self.leading(j), p, q, self.norm, x);
     }
 }
 
@@ -184,8 +183,11 @@ pub fn evd_from_real_schur(n: usize, ld: usize, t: &[f64], v: &mut [f64]) -> Res
         return Err(Refusal::BufferLength);
     }
     quasi_triangular(s, t)?;
-    let norm = form_norm(s, t);
-    let a = Leading { ld, n, a: t };
-    blocks_down(a, &Columns { s, t, norm }, v);
+    let columns = Columns {
+        s,
+        t,
+        norm: form_norm(s, t),
+    };
+    blocks_down(columns.leading(n), &columns, v);
     Ok(())
 }
