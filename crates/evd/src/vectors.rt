@@ -1,5 +1,5 @@
 // The vectors of a form: evd_from_real_schur.
-ghost use Rattle.std.specs.Prelude.{◌≡◌, ◌+◌, ◌*◌, ◌<◌, ◌≤◌, length, fold, Float};
+ghost use Rattle.std.specs.Prelude.{◌≡◌, ◌+◌, ◌*◌, ◌<◌, ◌≤◌, length, fold, map, Float};
 ghost use Rattle.std.specs.Float.{binary64};
 ghost use Rattle.std.specs.Float.Ieee.{add};
 ghost use Rattle.model.specs.Arith as Arith;
@@ -40,15 +40,15 @@ fn form_norm(s: Shape, t: &[f64]) -> f64
     norm
 }
 
-// `rows` numbers from place p on: those of the form negated. By index, here and below: of a slice that is filled
-// from another through iter_mut and zip, a proof knows only the length.
-#[tactic(auto, using(solve::proofs::Left::left_suc, solve::proofs::Left::left_none), unfolding(model::specs::Vectors::negated_run))]
-fn negate_run(t: &[f64], p: usize, rows: usize, v: &mut [f64])
-    requires { (p + rows ≤ length t.now) × (p + rows ≤ length v.old) }
-    ensures { v.new ≡ Vectors.negated_run t.now p rows 0 v.old }
+// What f makes of each number of `from`, in `to`. By index there: of a loop over iter_mut and zip, a proof knows only
+// the length of what is filled.
+#[tactic(auto, using(crate::proofs::Part::filled, crate::proofs::Part::all_filled))]
+fn fill<F: Fn(f64) -> f64>(to: &mut [f64], from: &[f64], f: F)
+    requires { F.IsAlwaysCallable f × (length from.now ≡ length to.old) }
+    ensures { (g : Float → Float) → ((x y : Float) → F.post f x y → y ≡ g x) → to.new ≡ map g from.now }
 {
-    for i in 0..rows {
-        v[p + i] = -t[p + i];
+    for (i, &x) in from.iter().enumerate() {
+        to[i] = f(x);
     }
 }
 
@@ -88,19 +88,6 @@ fn start_block(s: Shape, j: usize, own: Start, v: &mut [f64])
     s.put(v, j + 1, j, 0.0);
 }
 
-// `count` numbers from place p on, and as many ld further on: those of the form times the negated
-// diagonal numbers.
-#[tactic(auto, using(solve::proofs::Left::left_suc, solve::proofs::Left::left_none), unfolding(model::specs::Vectors::scaled_runs))]
-fn scale_runs(ld: usize, t: &[f64], s: Start, p: usize, count: usize, v: &mut [f64])
-    requires { (p + ld + count ≤ length t.now) × (p + ld + count ≤ length v.old) }
-    ensures { v.new ≡ Vectors.scaled_runs binary64 ld t.now (start s) p count 0 v.old }
-{
-    for i in 0..count {
-        v[p + i] = -s.upper * t[p + i];
-        v[p + i + ld] = -s.lower * t[p + i + ld];
-    }
-}
-
 // The form whose vectors are made.
 #[derive(Clone, Copy)]
 struct Columns<'a> {
@@ -135,7 +122,18 @@ impl Columns<'_> {
         let q = imag_size(c, b);
         let own = start_of(b, c, q);
         start_block(s, j, own, &mut *v);
-        scale_runs(s.ld, self.t, own, s.place(0, j), j, v);
+        let left = s.place(0, j);
+        let right = s.place(0, j + 1);
+        fill(
+            &mut v[left..left + j],
+            &self.t[left..left + j],
+            |x| -own.upper * x,
+        );
+        fill(
+            &mut v[right..right + j],
+            &self.t[right..right + j],
+            |x| -own.lower * x,
+        );
         q
     }
 }
@@ -156,8 +154,8 @@ impl EachBlock for Columns<'_> {
         let p = s.get(self.t, k, k);
         s.put(&mut *v, k, k, 1.0);
         let top = s.place(0, k);
-        negate_run(self.t, top, k, &mut *v);
         let x = &mut v[top..top + k];
+        fill(&mut *x, &self.t[top..top + k], |x| -x);
         solve_real_shifted_upper_quasi_triangular_system(self.leading(k), p, self.norm, x);
     }
 
