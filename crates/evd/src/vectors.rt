@@ -27,7 +27,7 @@ fn add_magnitudes(xs: &[f64], norm: f64) -> f64
 }
 
 // The sum of magnitudes, column after column, each down to the subdiagonal.
-#[tactic(auto, using(solve::proofs::Left::left_none), unfolding(model::specs::Vectors::form_norm, model::specs::Vectors::norm_columns))]
+#[tactic(auto, unfolding(model::specs::Vectors::form_norm, model::specs::Vectors::norm_columns))]
 fn form_norm(s: Shape, t: &[f64]) -> f64
     requires { Holds s t.now }
     ensures { result ≡ Vectors.form_norm binary64 s.ld s.n t.now }
@@ -42,7 +42,7 @@ fn form_norm(s: Shape, t: &[f64]) -> f64
 
 // What f makes of each number of `from`, in `to`. By index there: of a loop over iter_mut and zip, a proof knows only
 // the length of what is filled.
-#[tactic(auto, using(crate::proofs::Part::filled, crate::proofs::Part::all_filled))]
+#[tactic(auto, using(crate::proofs::Part::all_filled))]
 fn fill<F: Fn(f64) -> f64>(to: &mut [f64], from: &[f64], f: F)
     requires { F.IsAlwaysCallable f × (length from.now ≡ length to.old) }
     ensures { (g : Float → Float) → ((x y : Float) → F.post f x y → y ≡ g x) → to.new ≡ map g from.now }
@@ -111,7 +111,7 @@ impl Columns<'_> {
     }
 
     // A 2-block's columns j and j + 1, before the rows above it are solved for; its imaginary size.
-    #[tactic(auto, using(crate::proofs::Places::side_by_side), unfolding(model::specs::Vectors::open_columns))]
+    #[tactic(auto, using(crate::proofs::Places::side_by_side))]
     fn open_columns(&self, j: usize, v: &mut [f64]) -> f64
         requires { Holds self.now.s v.old × (j + 1 < self.now.s.n) }
         ensures { (result ≡ imag_size_at binary64 self.now.s.ld self.now.t.now j) × (v.new ≡ Vectors.open_columns binary64 self.now.s.ld self.now.t.now j v.old) }
@@ -148,7 +148,7 @@ impl EachBlock for Columns<'_> {
     ghost two = { λ m. Vectors.cplx_columns binary64 m.s.ld m.t.now m.norm };
 
     // A 1-block's column k: 1 in row k, and above it the solution.
-    #[tactic(auto, using(crate::proofs::Part::put_back), unfolding(model::specs::Vectors::real_column))]
+    #[tactic(auto)]
     fn one(&self, k: usize, v: &mut [f64]) {
         let s = self.s;
         let p = s.get(self.t, k, k);
