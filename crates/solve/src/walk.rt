@@ -28,7 +28,7 @@ pub trait EachBlock {
 }
 
 // The blocks of a, the last one first. No `for`: a step is a block's size, and is read on the way.
-#[tactic(auto, using(crate::proofs::Left::le_zero), unfolding(model::specs::Vectors::blocks_down))]
+#[tactic(auto, unfolding(model::specs::Vectors::blocks_down))]
 pub fn blocks_down<B: EachBlock>(a: Leading, each: &B, x: &mut [f64])
     requires { (a.n ≤ B.rows each.now) × B.fits each.now (length x.old) }
     ensures { x.new ≡ Vectors.blocks_down binary64 a.entry.ld a.entry.a.now (B.one each.now) (B.two each.now) a.entry.n x.old }
