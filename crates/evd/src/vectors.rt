@@ -26,7 +26,8 @@ fn add_magnitudes(xs: &[f64], norm: f64) -> f64
     xs.iter().fold(norm, |a, x| a + abs1(*x))
 }
 
-// The sum of magnitudes, column after column, each down to the subdiagonal.
+// The sum of magnitudes, column after column, each down to the subdiagonal. By index: the form's chunks of ld numbers
+// are its columns, but chunks_exact wants 0 < ld, and a Shape does not say so.
 #[tactic(auto, unfolding(model::specs::Vectors::form_norm, model::specs::Vectors::norm_columns))]
 fn form_norm(s: Shape, t: &[f64]) -> f64
     requires { Holds s t.now }
