@@ -1,6 +1,8 @@
 // The vectors of a form: evd_from_real_schur.
-ghost use Rattle.std.specs.Prelude.{◌≡◌, ◌+◌, ◌*◌, ◌<◌, ◌≤◌, length};
+ghost use Rattle.std.specs.Prelude.{◌≡◌, ◌+◌, ◌*◌, ◌<◌, ◌≤◌, length, fold, map, Float};
 ghost use Rattle.std.specs.Float.{binary64};
+ghost use Rattle.std.specs.Float.Ieee.{add};
+ghost use Rattle.model.specs.Arith as Arith;
 ghost use Rattle.model.specs.Values.{imag_size_at};
 ghost use Rattle.model.specs.Vectors as Vectors;
 ghost use Rattle.refusal.specs.Line.{answer};
@@ -18,19 +20,15 @@ use solve::solve_real::solve_real_shifted_upper_quasi_triangular_system;
 use solve::walk::{EachBlock, blocks_down};
 
 // norm plus the magnitudes of the numbers.
-#[tactic(auto, using(crate::proofs::Sums::one_more, solve::proofs::Left::left_none), unfolding(model::specs::Vectors::sum_from))]
 fn add_magnitudes(xs: &[f64], norm: f64) -> f64
-    ensures { result ≡ Vectors.sum_from binary64 xs.now 0 (length xs.now) 0 norm }
+    ensures { result ≡ fold (λ (a x : Float). add binary64 a (Arith.abs1 x)) norm xs.now }
 {
-    let mut acc = norm;
-    for x in xs {
-        acc += abs1(*x);
-    }
-    acc
+    xs.iter().fold(norm, |a, x| a + abs1(*x))
 }
 
-// The sum of magnitudes, column after column, each down to the subdiagonal.
-#[tactic(auto, using(solve::proofs::Left::left_none), unfolding(model::specs::Vectors::form_norm, model::specs::Vectors::norm_columns))]
+// The sum of magnitudes, column after column, each down to the subdiagonal. By index: the form's chunks of ld numbers
+// are its columns, but chunks_exact wants 0 < ld, and a Shape does not say so.
+#[tactic(auto, unfolding(model::specs::Vectors::form_norm, model::specs::Vectors::norm_columns))]
 fn form_norm(s: Shape, t: &[f64]) -> f64
     requires { Holds s t.now }
     ensures { result ≡ Vectors.form_norm binary64 s.ld s.n t.now }
@@ -43,15 +41,15 @@ fn form_norm(s: Shape, t: &[f64]) -> f64
     norm
 }
 
-// `rows` numbers from place p on: those of the form negated. By index, here and below: of a slice that is filled
-// from another through iter_mut and zip, a proof knows only the length.
-#[tactic(auto, using(solve::proofs::Left::left_suc, solve::proofs::Left::left_none), unfolding(model::specs::Vectors::negated_run))]
-fn negate_run(t: &[f64], p: usize, rows: usize, v: &mut [f64])
-    requires { (p + rows ≤ length t.now) × (p + rows ≤ length v.old) }
-    ensures { v.new ≡ Vectors.negated_run t.now p rows 0 v.old }
+// What f makes of each number of `from`, in `to`. By index there: of a loop over iter_mut and zip, a proof knows only
+// the length of what is filled.
+#[tactic(auto, using(crate::proofs::Part::all_filled))]
+fn fill<F: Fn(f64) -> f64>(to: &mut [f64], from: &[f64], f: F)
+    requires { F.IsAlwaysCallable f × (length from.now ≡ length to.old) }
+    ensures { (g : Float → Float) → ((x y : Float) → F.post f x y → y ≡ g x) → to.new ≡ map g from.now }
 {
-    for i in 0..rows {
-        v[p + i] = -t[p + i];
+    for (i, &x) in from.iter().enumerate() {
+        to[i] = f(x);
     }
 }
 
@@ -91,19 +89,6 @@ fn start_block(s: Shape, j: usize, own: Start, v: &mut [f64])
     s.put(v, j + 1, j, 0.0);
 }
 
-// `count` numbers from place p on, and as many ld further on: those of the form times the negated
-// diagonal numbers.
-#[tactic(auto, using(solve::proofs::Left::left_suc, solve::proofs::Left::left_none), unfolding(model::specs::Vectors::scaled_runs))]
-fn scale_runs(ld: usize, t: &[f64], s: Start, p: usize, count: usize, v: &mut [f64])
-    requires { (p + ld + count ≤ length t.now) × (p + ld + count ≤ length v.old) }
-    ensures { v.new ≡ Vectors.scaled_runs binary64 ld t.now (start s) p count 0 v.old }
-{
-    for i in 0..count {
-        v[p + i] = -s.upper * t[p + i];
-        v[p + i + ld] = -s.lower * t[p + i + ld];
-    }
-}
-
 // The form whose vectors are made.
 #[derive(Clone, Copy)]
 struct Columns<'a> {
@@ -114,8 +99,20 @@ struct Columns<'a> {
 }
 
 impl Columns<'_> {
+    // The matrix of the first rows and columns.
+    fn leading(&self, rows: usize) -> Leading
+        requires { rows ≤ self.now.s.n }
+        ensures { (result.ld ≡ self.now.s.ld) × (result.n ≡ rows) × (result.a.now ≡ self.now.t.now) }
+    {
+        Leading {
+            ld: self.s.ld,
+            n: rows,
+            a: self.t,
+        }
+    }
+
     // A 2-block's columns j and j + 1, before the rows above it are solved for; its imaginary size.
-    #[tactic(auto, using(crate::proofs::Places::side_by_side), unfolding(model::specs::Vectors::open_columns))]
+    #[tactic(auto, using(crate::proofs::Places::side_by_side))]
     fn open_columns(&self, j: usize, v: &mut [f64]) -> f64
         requires { Holds self.now.s v.old × (j + 1 < self.now.s.n) }
         ensures { (result ≡ imag_size_at binary64 self.now.s.ld self.now.t.now j) × (v.new ≡ Vectors.open_columns binary64 self.now.s.ld self.now.t.now j v.old) }
@@ -126,7 +123,18 @@ impl Columns<'_> {
         let q = imag_size(c, b);
         let own = start_of(b, c, q);
         start_block(s, j, own, &mut *v);
-        scale_runs(s.ld, self.t, own, s.place(0, j), j, v);
+        let left = s.place(0, j);
+        let right = s.place(0, j + 1);
+        fill(
+            &mut v[left..left + j],
+            &self.t[left..left + j],
+            |x| -own.upper * x,
+        );
+        fill(
+            &mut v[right..right + j],
+            &self.t[right..right + j],
+            |x| -own.lower * x,
+        );
         q
     }
 }
@@ -141,20 +149,15 @@ impl EachBlock for Columns<'_> {
     ghost two = { λ m. Vectors.cplx_columns binary64 m.s.ld m.t.now m.norm };
 
     // A 1-block's column k: 1 in row k, and above it the solution.
-    #[tactic(auto, using(crate::proofs::Part::put_back), unfolding(model::specs::Vectors::real_column))]
+    #[tactic(auto)]
     fn one(&self, k: usize, v: &mut [f64]) {
         let s = self.s;
         let p = s.get(self.t, k, k);
         s.put(&mut *v, k, k, 1.0);
         let top = s.place(0, k);
-        negate_run(self.t, top, k, &mut *v);
-        let a = Leading {
-            ld: s.ld,
-            n: k,
-            a: self.t,
-        };
         let x = &mut v[top..top + k];
-        solve_real_shifted_upper_quasi_triangular_system(a, p, self.norm, x);
+        fill(&mut *x, &self.t[top..top + k], |x| -x);
+        solve_real_shifted_upper_quasi_triangular_system(self.leading(k), p, self.norm, x);
     }
 
     // A 2-block's columns j and j + 1: the real and the imaginary part.
@@ -164,13 +167,8 @@ impl EachBlock for Columns<'_> {
         let q = self.open_columns(j, &mut *v);
         let p = s.get(self.t, j + 1, j + 1);
         let top = s.place(0, j);
-        let a = Leading {
-            ld: s.ld,
-            n: j,
-            a: self.t,
-        };
         let x = &mut v[top..top + (s.ld + j)];
-        solve_cplx_shifted_upper_quasi_triangular_system(a, p, q, self.norm, x);
+        solve_cplx_shifted_upper_quasi_triangular_system(self.leading(j), p, q, self.norm, x);
     }
 }
 
@@ -184,8 +182,11 @@ pub fn evd_from_real_schur(n: usize, ld: usize, t: &[f64], v: &mut [f64]) -> Res
         return Err(Refusal::BufferLength);
     }
     quasi_triangular(s, t)?;
-    let norm = form_norm(s, t);
-    let a = Leading { ld, n, a: t };
-    blocks_down(a, &Columns { s, t, norm }, v);
+    let columns = Columns {
+        s,
+        t,
+        norm: form_norm(s, t),
+    };
+    blocks_down(columns.leading(n), &columns, v);
     Ok(())
 }

@@ -1,12 +1,12 @@
 -- Sums of products as a loop makes them: the rest of the pairs, from the sum so far, gives the whole. Assumes nothing.
 use mathlib.Core.Path.{◌≡◌}
 use Prim.Native.Nat.{ℕ, zero, suc, ◌+◌, ◌-◌, ◌*◌, ◌/◌, ◌%◌, ◌≤◌, ◌<◌}
-use native.Mathlib.Nat.{sub-zero}
+use native.Mathlib.Nat.{sub-zero, sub-eq-zero_of_le}
 use native.Mathlib.Omega.{arith}
 use lib.Ieee.{Float, binary64, add, mul, of_bits}
 use Rattle.model.specs.Arith.{inner_from, inner_prod}
 use Rattle.model.specs.Vectors.{split_from, split_prod}
-use Rattle.solve.proofs.Left.{left_suc, left_none}
+use Rattle.solve.proofs.Left.{left_suc}
 
 -- the n pairs of x and y, i of them added to a
 abbrev pub Rest : (ℕ → Float) → (ℕ → Float) → ℕ → ℕ → Float → Type 0
@@ -22,7 +22,7 @@ next x y n i a p h e r = rw e (rw (left_suc i n h) at r)
 
 pub done : (x y : ℕ → Float) (n i : ℕ) (a : Float) → n ≤ i → Rest x y n i a → a ≡ inner_prod binary64 x y n
 unfolding inner_from
-done x y n i a h r = rw (left_none i n h) at r
+done x y n i a h r = rw (sub-eq-zero_of_le h) at r
 
 -- ---- even and odd places apart
 

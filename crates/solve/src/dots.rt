@@ -1,4 +1,5 @@
-// Inner products of numbers that stand a step apart.
+// Inner products of numbers that stand a step apart. That the counts are equal is a clause: two, three and four lists
+// meet here, and as a ghost field it would need a struct for each of the three.
 ghost use Rattle.std.specs.Prelude.{◌≡◌};
 ghost use Rattle.std.specs.Float.{binary64};
 ghost use Rattle.model.specs.Arith.{inner_prod};
@@ -7,7 +8,7 @@ ghost use Rattle.solve.specs.Numbers.{numbers};
 
 use crate::strided::Strided;
 
-// From +0, left to right.
+// From +0, left to right. By index, here and below: an iterator over a Strided would be an impl with this index in it.
 #[tactic(auto, using(crate::proofs::Sums::all, crate::proofs::Sums::next, crate::proofs::Sums::done))]
 pub fn inner_prod(lhs: Strided, rhs: Strided) -> f64
     requires { rhs.count ≡ lhs.count }

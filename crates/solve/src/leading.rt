@@ -7,7 +7,8 @@ ghost use Rattle.model.specs.Move as Move;
 use crate::strided::Strided;
 use form::{place, row_start};
 
-// The first n rows of the first n columns in a, ld places apart.
+// The first n rows of the first n columns in a, ld places apart. It holds no Shape, whose get and size_above want
+// the list to end with the last column: here the form may go on, and no n ≤ ld is asked for.
 #[derive(Clone, Copy)]
 pub struct Leading<'a> {
     pub ld: usize,

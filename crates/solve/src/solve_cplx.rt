@@ -1,15 +1,17 @@
-// The complex shifted solver, plain branch: (A - p - q i) x = b. The real parts of x stand in one
+// The complex shifted solver, block by block from the last: (A - p - q i) x = b. The real parts of x stand in one
 // column and the imaginary parts in the next, ld further.
 ghost use Rattle.std.specs.Prelude.{◌≡◌, ◌+◌, ◌<◌, ◌≤◌, length};
 ghost use Rattle.std.specs.Float.{binary64};
 ghost use Rattle.model.specs.Form.{at};
 ghost use Rattle.model.specs.Vectors as Vectors;
+ghost use Rattle.solve.specs.Columns.{TwoColumns};
 ghost use Rattle.solve.specs.View.{complex, rows};
 ghost use Rattle.std.specs.Float.Ieee.{neg, sub};
 
 use crate::complex::Complex;
 use crate::dots::{dot2x1, dot2x2};
 use crate::leading::Leading;
+use crate::shifted::Shifted;
 use crate::strided::Strided;
 use crate::walk::{EachBlock, blocks_down};
 
@@ -32,19 +34,10 @@ fn solve_pair(s: Complex, b: f64, c: f64, r: Rows, norm: f64) -> Rows
     }
 }
 
-// A - p - q i.
-#[derive(Clone, Copy)]
-struct Shifted<'a> {
-    a: Leading<'a>,
-    p: f64,
-    q: f64,
-    norm: f64,
-}
-
-impl Shifted<'_> {
+impl Shifted<'_, Complex> {
     // Row i of the two columns.
     fn at(&self, i: usize, x: &[f64]) -> Complex
-        requires { (i < self.now.a.n) × (self.now.a.ld + self.now.a.n ≤ length x.now) }
+        requires { (i < self.now.a.n) × TwoColumns self.now.a (length x.now) }
         ensures { (result.re ≡ at x.now i) × (result.im ≡ at x.now (self.now.a.ld + i)) }
     {
         Complex {
@@ -56,7 +49,7 @@ impl Shifted<'_> {
     // Row i of the two columns set.
     #[tactic(auto, unfolding(model::specs::Vectors::complex_set))]
     fn put(&self, i: usize, w: Complex, x: &mut [f64])
-        requires { (i < self.now.a.n) × (self.now.a.ld + self.now.a.n ≤ length x.old) }
+        requires { (i < self.now.a.n) × TwoColumns self.now.a (length x.old) }
         ensures { x.new ≡ Vectors.complex_set self.now.a.ld x.old i (complex w) }
     {
         x[i] = w.re;
@@ -65,18 +58,18 @@ impl Shifted<'_> {
 
     // What stands on the diagonal where A has d.
     fn shifted(&self, d: f64) -> Complex
-        ensures { complex result ≡ record { re = sub binary64 d self.now.p; im = neg self.now.q } }
+        ensures { complex result ≡ record { re = sub binary64 d self.now.shift.re; im = neg self.now.shift.im } }
     {
         Complex {
-            re: d - self.p,
-            im: -self.q,
+            re: d - self.shift.re,
+            im: -self.shift.im,
         }
     }
 
     // Rows i and i + 1 less their inner products with the rows below.
     #[tactic(auto, unfolding(model::specs::Vectors::cplx_rest))]
     fn rest_of(&self, i: usize, x: &[f64]) -> Rows
-        requires { (i + 1 < self.now.a.n) × (self.now.a.ld + self.now.a.n ≤ length x.now) }
+        requires { (i + 1 < self.now.a.n) × TwoColumns self.now.a (length x.now) }
         ensures { (complex result.upper ≡ Vectors.cplx_rest binary64 self.now.a.ld self.now.a.a.now self.now.a.n x.now i (i + 2)) × (complex result.lower ≡ Vectors.cplx_rest binary64 self.now.a.ld self.now.a.a.now self.now.a.n x.now (i + 1) (i + 2)) }
     {
         let a = self.a;
@@ -100,14 +93,14 @@ impl Shifted<'_> {
     }
 }
 
-impl EachBlock for Shifted<'_> {
+impl EachBlock for Shifted<'_, Complex> {
     ghost rows = { λ m. m.a.n };
 
-    ghost fits = { λ m len. m.a.ld + m.a.n ≤ len };
+    ghost fits = { λ m. TwoColumns m.a };
 
-    ghost one = { λ m. Vectors.cplx_one binary64 m.a.ld m.a.a.now m.p m.q m.norm m.a.n };
+    ghost one = { λ m. Vectors.cplx_one binary64 m.a.ld m.a.a.now m.shift.re m.shift.im m.norm m.a.n };
 
-    ghost two = { λ m. Vectors.cplx_two binary64 m.a.ld m.a.a.now m.p m.q m.norm m.a.n };
+    ghost two = { λ m. Vectors.cplx_two binary64 m.a.ld m.a.a.now m.shift.re m.shift.im m.norm m.a.n };
 
     #[tactic(auto, unfolding(model::specs::Vectors::cplx_one))]
     fn one(&self, i: usize, x: &mut [f64]) {
@@ -145,8 +138,9 @@ pub fn solve_cplx_shifted_upper_quasi_triangular_system(
     norm: f64,
     x: &mut [f64],
 )
-    requires { a.ld + a.n ≤ length x.old }
+    requires { TwoColumns a (length x.old) }
     ensures { x.new ≡ Vectors.solve_cplx binary64 a.entry.ld a.entry.a.now p q norm a.entry.n x.old }
 {
-    blocks_down(a, &Shifted { a, p, q, norm }, x);
+    let shift = Complex { re: p, im: q };
+    blocks_down(a, &Shifted { a, shift, norm }, x);
 }

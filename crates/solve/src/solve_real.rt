@@ -1,10 +1,11 @@
-// The real shifted solver, plain branch: (A - p) x = b, b in x at the start and x at the end.
+// The real shifted solver, block by block from the last: (A - p) x = b, b in x at the start and x at the end.
 ghost use Rattle.std.specs.Prelude.{◌≡◌, ◌<◌, ◌≤◌, length};
 ghost use Rattle.std.specs.Float.{binary64};
 ghost use Rattle.model.specs.Vectors as Vectors;
 
 use crate::dots::{Two, dot2x1, inner_prod};
 use crate::leading::Leading;
+use crate::shifted::Shifted;
 use crate::strided::Strided;
 use crate::walk::{EachBlock, blocks_down};
 use arith::real::{EPS, abs, abs2, recip};
@@ -25,29 +26,21 @@ fn divided(x: f64, z: f64) -> f64
     if x != 0.0 { x / z } else { x }
 }
 
-// A - p.
-#[derive(Clone, Copy)]
-struct Shifted<'a> {
-    a: Leading<'a>,
-    p: f64,
-    norm: f64,
-}
-
-impl EachBlock for Shifted<'_> {
+impl EachBlock for Shifted<'_, f64> {
     ghost rows = { λ m. m.a.n };
 
     ghost fits = { λ m len. m.a.n ≤ len };
 
-    ghost one = { λ m. Vectors.real_one binary64 m.a.ld m.a.a.now m.p m.norm m.a.n };
+    ghost one = { λ m. Vectors.real_one binary64 m.a.ld m.a.a.now m.shift m.norm m.a.n };
 
-    ghost two = { λ m. Vectors.real_two binary64 m.a.ld m.a.a.now m.p m.a.n };
+    ghost two = { λ m. Vectors.real_two binary64 m.a.ld m.a.a.now m.shift m.a.n };
 
     #[tactic(auto, unfolding(model::specs::Vectors::real_one))]
     fn one(&self, i: usize, x: &mut [f64]) {
         let a = self.a;
         let rest = Strided::run(&*x, i + 1, a.n - (i + 1));
         let dot = inner_prod(a.row(i, i + 1), rest);
-        let z = divisor(a.get(i, i) - self.p, self.norm);
+        let z = divisor(a.get(i, i) - self.shift, self.norm);
         let r = x[i] - dot;
         x[i] = divided(r, z);
     }
@@ -61,7 +54,7 @@ impl EachBlock for Shifted<'_> {
         let r0 = x[i] - d0;
         let r1 = x[i + 1] - d1;
         let k = a.block(i);
-        let d = k.d - self.p;
+        let d = k.d - self.shift;
         let inv_det = recip(abs2(d) - k.b * k.c);
         x[i] = (d * r0 - k.b * r1) * inv_det;
         x[i + 1] = (d * r1 - k.c * r0) * inv_det;
@@ -79,5 +72,6 @@ pub fn solve_real_shifted_upper_quasi_triangular_system(
     requires { a.n ≤ length x.old }
     ensures { x.new ≡ Vectors.solve_real binary64 a.entry.ld a.entry.a.now p norm a.entry.n x.old }
 {
-    blocks_down(a, &Shifted { a, p, norm }, x);
+    let system = Shifted { a, shift: p, norm };
+    blocks_down(a, &system, x);
 }

@@ -5,13 +5,15 @@ ghost use Rattle.model.specs.Vectors as Vectors;
 
 use crate::leading::Leading;
 
-// What is done to a list at each block: at a 1-block's row, and at a 2-block's first row.
+// What each block does to a list: `one` a 1-block in row i, `two` a 2-block in rows i and i + 1.
 pub trait EachBlock {
-    // how many rows there are, and what the list's length meets
+    // how many rows there are
     ghost rows: { Self → ℕ };
 
+    // what is asked of the list's length
     ghost fits: { Self → ℕ → Type 0 };
 
+    // what `one` and `two` make of the list
     ghost one: { Self → ℕ → List Float → List Float };
 
     ghost two: { Self → ℕ → List Float → List Float };
@@ -25,8 +27,8 @@ pub trait EachBlock {
         ensures { x.new ≡ two self.now i x.old };
 }
 
-// The blocks of a, the last one first.
-#[tactic(auto, using(crate::proofs::Left::le_zero), unfolding(model::specs::Vectors::blocks_down))]
+// The blocks of a, the last one first. No `for`: a step is a block's size, and is read on the way.
+#[tactic(auto, unfolding(model::specs::Vectors::blocks_down))]
 pub fn blocks_down<B: EachBlock>(a: Leading, each: &B, x: &mut [f64])
     requires { (a.n ≤ B.rows each.now) × B.fits each.now (length x.old) }
     ensures { x.new ≡ Vectors.blocks_down binary64 a.entry.ld a.entry.a.now (B.one each.now) (B.two each.now) a.entry.n x.old }

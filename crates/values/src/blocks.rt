@@ -40,8 +40,9 @@ fn two_values<R: Reading>(s: Shape, t: &[f64], j: usize, re: &mut [f64], im: &mu
     im[j] = v.im1;
 }
 
-// The values of an accepted form.
-#[tactic(auto, using(crate::proofs::Ups::next_one, crate::proofs::Ups::next_two, form::proofs::Above::inside_block, solve::proofs::Left::left_none), unfolding(model::specs::Values::values_from))]
+// The values of an accepted form, from the first block on. No `for`: a step is a block's size, and is read on the
+// way. Not by the walk of `solve`, which goes up from the last block and changes one list: C lends two here.
+#[tactic(auto, using(crate::proofs::Ups::next_one, crate::proofs::Ups::next_two, form::proofs::Above::inside_block), unfolding(model::specs::Values::values_from))]
 fn all_values<R: Reading>(s: Shape, t: &[f64], re: &mut [f64], im: &mut [f64])
     requires { Holds s t.now × (length re.old ≡ s.n) × (length im.old ≡ s.n) }
     ensures { (record { re = re.new; im = im.new }) ≡ Spec.values_from binary64 R.read s.ld t.now s.n 0 (record { re = re.old; im = im.old }) }

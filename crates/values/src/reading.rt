@@ -1,5 +1,4 @@
-// The two readings of a 2-block: as it stands, which is how partial_schur_real_imp reads it, and of a copy
-// standardised first.
+// The two readings of a 2-block: as it stands, and of a copy standardised first.
 ghost use Rattle.std.specs.Prelude.{◌≡◌, Float};
 ghost use Rattle.std.specs.Float.{binary64};
 ghost use Rattle.model.specs.Schur22 as Schur22;
@@ -9,6 +8,7 @@ ghost use Rattle.schur22.specs.View.{eigenvalues};
 use schur22::lahqr_schur22::{Eigenvalues, lahqr_schur22};
 use solve::block::imag_size;
 
+// How a 2-block is read.
 pub trait Reading {
     ghost read: { Float → Float → Float → Float → Schur22.Eigenvalues };
 

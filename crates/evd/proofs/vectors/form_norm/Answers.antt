@@ -17,5 +17,5 @@ loop-j-preserved c =
     let top : c.place-top.result ≡ s.ld * j = c.place-top.ensures.0 ∙ zero-add _ in
     let rows : c.min.result ≡ rows_to s.n j = c.min.ensures ∙ least s.n j in
     let inside : c.place-top.result + c.min.result ≤ length c.args.t.now = omega (arith, c.place-top.ensures.1, c.min.ensures, s.fits, c.requires) in
-    let sum = part_sum c.args.t.now c.place-top.result c.min.result c.loop-j.norm c.add_magnitudes-norm.result inside c.add_magnitudes-norm.ensures in
+    let sum = c.add_magnitudes-norm.ensures ∙ part_sum c.args.t.now c.place-top.result c.min.result c.loop-j.norm inside in
     rw (sum, top, rows) (rw (left_suc _ _ c.loop-j-test.true) at c.loop-j.invariant)
