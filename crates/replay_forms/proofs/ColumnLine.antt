@@ -1,18 +1,17 @@
 -- A line of a column that is read part by part. Assumes nothing.
 use Prim.Native.Nat.{ℕ, ◌+◌, ◌≤◌}
-use mathlib.Core.Path.{◌≡◌, refl, ◌∙◌}
+use mathlib.Core.Path.{◌≡◌, refl}
 use mathlib.Core.Bool.{cond}
 use mathlib.Core.List.{List, ◌∷◌}
 use native.Mathlib.Omega.{arith}
 use lib.ListN.{length, get_or, take, drop}
-use lib.Seq.{get_or-drop}
 use lib.Ieee.{Float}
 use borrow.Author.Tests.{le-leb}
 use Rattle.model.specs.Vectors as Vectors
 use Rattle.replay_text.specs.Float.{are_words}
 use Rattle.replay_text.specs.declared.outcome.Outcome.{Outcome}
 use Rattle.replay_forms.specs.Lines.{column, same_column}
-use Rattle.replay_forms.proofs.Parts.{numbers, further, first, word}
+use Rattle.replay_forms.proofs.Parts.{numbers, further, n-at, ld-at, head-at, first, word-at}
 
 module _
     (more : ℕ) (w : List ℕ)
@@ -26,7 +25,7 @@ module _
     at₁ = (first e₁).1
 
     at₂ : w₂ ≡ drop (2 + more) w
-    at₂ = further w 1 (1 + more) (2 + more) at₁ e₂ (omega arith)
+    at₂ = head-at w 1 more at₁ e₂
 
     at₃ : w₃ ≡ drop (3 + more) w
     at₃ = further w (2 + more) 1 (3 + more) at₂ (first e₃).1 (omega arith)
@@ -34,18 +33,9 @@ module _
     rest-at : rest ≡ drop (3 + more + a) w
     rest-at = further w (3 + more) a (3 + more + a) at₃ rest-is refl
 
-    col-at : col ≡ get_or w (2 + more) 0
-    col-at = (first e₃).0 ∙ rw (at₂, word (2 + more) w)
-
-    n-at : n ≡ get_or w 1 0
-    n-at = rw (n-is, at₁, get_or-drop 1 w 0 0)
-
-    ld-at : ld ≡ get_or w (1 + more) 0
-    ld-at = rw (ld-is, at₁, get_or-drop 1 w more 0)
-
     same : are_words part rest ≡ same_column more w a
     unfolding same_column
-    same = rw (part-is, n-at, ld-at, col-at, v-is, vectors-is, at₃, rest-at)
+    same = rw (part-is, n-at w 1 more at₁ n-is, ld-at w 1 more at₁ ld-is, word-at w (2 + more) at₂ e₃, v-is, vectors-is, at₃, rest-at)
 
     pub column_read : cond (are_words part rest) Outcome.Same Outcome.Differs ≡ column more w
     column_read = rw (← (first e₁).0, le-leb a 8320 holds, le-leb (3 + more + a) (length w) fits, same)

@@ -1,18 +1,17 @@
 -- A line on a form and a factor that is read part by part. Assumes nothing.
 use Prim.Native.Nat.{ℕ, ◌+◌, ◌*◌, ◌≤◌}
-use mathlib.Core.Path.{◌≡◌, refl, sym, ap, ◌∙◌}
+use mathlib.Core.Path.{◌≡◌, refl, ap, ◌∙◌}
 use mathlib.Core.Bool.{◌&&◌, cond}
 use mathlib.Core.List.{List}
 use native.Mathlib.Omega.{arith}
 use lib.Dec.{eqb}
 use lib.ListN.{length, get_or, take, drop}
-use lib.Seq.{get_or-drop, take_all}
 use lib.Ieee.{Float}
 use Rattle.std.specs.Cmp.Lexicographic.{pointwise}
 use Rattle.replay_text.specs.Float.{are_words}
 use Rattle.replay_text.specs.declared.outcome.Outcome.{Outcome}
 use Rattle.replay_forms.specs.Lines.{Answered, Call, on_two, same_two}
-use Rattle.replay_forms.proofs.Parts.{numbers, fit, further}
+use Rattle.replay_forms.proofs.Parts.{numbers, fit, further, to_end, n-at, ld-at, head-at, first-buffer, second-buffer, after-buffers}
 
 module _
     (call : Call) (g k more : ℕ) (w : List ℕ)
@@ -29,36 +28,36 @@ module _
     (answered : record { numbers = r; form = t'; factor = u' } ≡ call ld n given t u)
   where
     at₂ : w₂ ≡ drop (3 + more) w
-    at₂ = further w 2 (1 + more) (3 + more) e₁ e₂ (omega arith)
+    at₂ = head-at w 2 more e₁ e₂
 
     at₃ : w₃ ≡ drop (3 + more + g) w
     at₃ = further w (3 + more) g (3 + more + g) at₂ e₃ refl
 
-    at₄ : w₄ ≡ drop (3 + more + g + a) w
-    at₄ = further w (3 + more + g) a (3 + more + g + a) at₃ e₄ refl
-
     at₅ : w₅ ≡ drop (3 + more + g + a + b) w
-    at₅ = further w (3 + more + g + a) b (3 + more + g + a + b) at₄ e₅ refl
+    at₅ = after-buffers w (3 + more + g) a b at₃ form-is e₄ factor-is e₅
 
     at₆ : w₆ ≡ drop (3 + more + g + a + b + k) w
     at₆ = further w (3 + more + g + a + b) k (3 + more + g + a + b + k) at₅ e₆ refl
-
-    at₇ : rest ≡ take b (drop (3 + more + g + a + b + k + a) w)
-    at₇ =
-        let e = further w (3 + more + g + a + b + k) a (3 + more + g + a + b + k + a) at₆ e₇ refl in
-        e ∙ sym (take_all b (drop (3 + more + g + a + b + k + a) w) (rw (← e, all) (omega arith)))
-
-    n-at : n ≡ get_or w 2 0
-    n-at = rw (n-is, e₁, get_or-drop 2 w 0 0)
-
-    ld-at : ld ≡ get_or w (2 + more) 0
-    ld-at = rw (ld-is, e₁, get_or-drop 2 w more 0)
 
     same : (pointwise eqb r told && are_words t' after && are_words u' rest) ≡ same_two call g k more w a b
     unfolding same_two
     same =
         ap (λ (x : Answered). pointwise eqb x.numbers told && are_words x.form after && are_words x.factor rest) answered
-        ∙ rw (n-at, ld-at, t-is, u-is, given-is, form-is, factor-is, told-is, after-is, at₇, at₂, at₃, at₄, at₅, at₆)
+        ∙ rw (
+          n-at w 2 more e₁ n-is,
+          ld-at w 2 more e₁ ld-is,
+          t-is,
+          u-is,
+          given-is,
+          first-buffer w (3 + more + g) a b at₃ form-is e₄ factor-is e₅,
+          second-buffer w (3 + more + g) a b at₃ form-is e₄ factor-is e₅,
+          told-is,
+          after-is,
+          to_end w (3 + more + g + a + b + k) a b at₆ e₇ all,
+          at₂,
+          at₅,
+          at₆,
+        )
 
     pub two_read : cond (pointwise eqb r told && are_words t' after && are_words u' rest) Outcome.Same Outcome.Differs ≡ on_two call g k more w
     two_read = rw (← a-is, ← b-is, fit (length w) (3 + more + g + k) 0 a b (omega arith) form-holds factor-holds fits, same)

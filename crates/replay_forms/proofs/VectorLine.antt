@@ -1,19 +1,18 @@
 -- A line of vectors that is read part by part. Assumes nothing.
 use Prim.Native.Nat.{ℕ, ◌+◌, ◌*◌, ◌≤◌}
-use mathlib.Core.Path.{◌≡◌, refl, sym, ap, ◌∙◌}
+use mathlib.Core.Path.{◌≡◌, ap, ◌∙◌}
 use mathlib.Core.Bool.{◌&&◌, cond}
 use mathlib.Core.List.{List, ◌∷◌}
 use native.Mathlib.Omega.{arith}
 use lib.Dec.{eqb}
 use lib.ListN.{length, get_or, take, drop}
-use lib.Seq.{get_or-drop, take_all}
 use lib.Ieee.{Float}
 use Rattle.std.specs.Float.{binary64}
 use Rattle.model.specs.Vectors as Vectors
 use Rattle.replay_text.specs.Float.{are_words}
 use Rattle.replay_text.specs.declared.outcome.Outcome.{Outcome}
 use Rattle.replay_forms.specs.Lines.{evd_from_real_schur, same_vectors}
-use Rattle.replay_forms.proofs.Parts.{numbers, fit, further, first, word}
+use Rattle.replay_forms.proofs.Parts.{numbers, fit, to_end, n-at, ld-at, head-at, first-buffer, second-buffer, after-buffers, first, word-at}
 
 module _
     (more : ℕ) (w : List ℕ)
@@ -28,33 +27,25 @@ module _
     (answered : record { answer = x; v = v' } ≡ Vectors.evd_from_real_schur binary64 ld n t v)
   where
     at₂ : w₂ ≡ drop (3 + more) w
-    at₂ = further w 2 (1 + more) (3 + more) e₁ e₂ (omega arith)
-
-    at₃ : w₃ ≡ drop (3 + more + a) w
-    at₃ = further w (3 + more) a (3 + more + a) at₂ e₃ refl
+    at₂ = head-at w 2 more e₁ e₂
 
     at₄ : w₄ ≡ drop (3 + more + a + b) w
-    at₄ = further w (3 + more + a) b (3 + more + a + b) at₃ e₄ refl
-
-    told-at : told ≡ get_or w (3 + more + a + b) 0
-    told-at = (first e₅).0 ∙ rw (at₄, word (3 + more + a + b) w)
-
-    rest-at : rest ≡ take b (drop (3 + more + a + b + 1) w)
-    rest-at =
-        let e = further w (3 + more + a + b) 1 (3 + more + a + b + 1) at₄ (first e₅).1 refl in
-        e ∙ sym (take_all b (drop (3 + more + a + b + 1) w) (rw (← e, all) (omega arith)))
-
-    n-at : n ≡ get_or w 2 0
-    n-at = rw (n-is, e₁, get_or-drop 2 w 0 0)
-
-    ld-at : ld ≡ get_or w (2 + more) 0
-    ld-at = rw (ld-is, e₁, get_or-drop 2 w more 0)
+    at₄ = after-buffers w (3 + more) a b at₂ form-is e₃ lent-is e₄
 
     same : (eqb x told && are_words v' rest) ≡ same_vectors more w a b
     unfolding same_vectors
     same =
         ap (λ (r : Vectors.Vectors). eqb r.answer told && are_words r.v rest) answered
-        ∙ rw (n-at, ld-at, t-is, v-is, form-is, lent-is, told-at, rest-at, at₂, at₃)
+        ∙ rw (
+          n-at w 2 more e₁ n-is,
+          ld-at w 2 more e₁ ld-is,
+          t-is,
+          v-is,
+          first-buffer w (3 + more) a b at₂ form-is e₃ lent-is e₄,
+          second-buffer w (3 + more) a b at₂ form-is e₃ lent-is e₄,
+          word-at w (3 + more + a + b) at₄ e₅,
+          to_end w (3 + more + a + b) 1 b at₄ (first e₅).1 all,
+        )
 
     pub vectors_read : cond (eqb x told && are_words v' rest) Outcome.Same Outcome.Differs ≡ evd_from_real_schur more w
     vectors_read = rw (← a-is, ← b-is, fit (length w) (4 + more) a b 0 form-holds lent-holds (omega arith) fits, same)

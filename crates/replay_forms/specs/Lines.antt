@@ -1,5 +1,5 @@
 -- What a line of each call on forms shows, by the call's definition in model. Definitions only. Assumes nothing.
-use Rattle.std.specs.Prelude.{ℕ, ◌+◌, ◌*◌, Bool, ◌&&◌, cond, List, [], ◌∷◌, eqb, leb, length, get_or, take, drop, Float, Option, Some, None}
+use Rattle.std.specs.Prelude.{ℕ, ◌+◌, ◌*◌, Bool, ◌&&◌, cond, List, [], ◌∷◌, eqb, leb, length, get_or, take, drop, Float}
 use Rattle.std.specs.Cmp.Lexicographic.{pointwise}
 use Rattle.std.specs.Float.{binary64}
 use Rattle.model.specs.Move as Move
@@ -24,11 +24,6 @@ are w i k x = are_words x (take k (drop i w))
 -- so many words are `rest` and buffers that a room holds: one of `once` numbers that is given, and two of a and b numbers that are given and expected
 unfoldable pub fits : ℕ → ℕ → ℕ → ℕ → ℕ → Bool
 fits words rest once a b = leb once 8320 && leb a 8320 && leb b 8320 && eqb words (rest + once + 2 * (a + b))
-
--- a line that was read, and gives what is expected or not; one that is no line of the call
-abbrev pub outcome : Option Bool → Outcome
-outcome (Some same) = cond same Outcome.Same Outcome.Differs
-outcome None = Outcome.Malformed
 
 -- what a call on a form and a factor answers: its numbers, and form and factor after it
 pub record Answered : Type 0 where

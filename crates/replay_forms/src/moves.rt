@@ -2,13 +2,14 @@
 // the numbers that the call takes, form and factor; the numbers of its answer, form and factor as they
 // are expected.
 ghost use Rattle.std.specs.Prelude.{◌≡◌, ◌≤◌};
+ghost use Rattle.replay_text.specs.Shown.{judged_read};
 ghost use Rattle.replay_forms.specs.Lines as Lines;
 ghost use Rattle.replay_forms.specs.Lines.{more};
 
-use crate::buffers::{ROOM, numbers, outcome};
+use crate::buffers::{ROOM, numbers};
 use crate::head::Stride;
 use replay_text::float::are_words;
-use replay_text::outcome::Outcome;
+use replay_text::outcome::{Outcome, judge_read};
 
 // A call on a form and a factor, which takes G numbers beside n and the stride, and answers N.
 trait OnTwo<const G: usize, const N: usize> {
@@ -75,7 +76,7 @@ impl OnTwo<3, 3> for Exchange {
 #[tactic(auto, unfolding(crate::specs::Lines::fits))]
 fn on_two<const G: usize, const N: usize, C: OnTwo<G, N>>(stride: Stride, w: &[u64]) -> Option<bool>
     requires { (G ≤ 8) × (N ≤ 8) }
-    ensures { Lines.outcome result ≡ Lines.on_two C.gives G N (more stride) w.now }
+    ensures { judged_read result ≡ Lines.on_two C.gives G N (more stride) w.now }
 {
     let (&[a, b], shape) = w.split_first_chunk::<2>()?;
     let head = stride.head(shape)?;
@@ -101,17 +102,17 @@ fn on_two<const G: usize, const N: usize, C: OnTwo<G, N>>(stride: Stride, w: &[u
 pub fn reorder_schur(stride: Stride, w: &[u64]) -> Outcome
     ensures { result ≡ Lines.reorder_schur (more stride) w.now }
 {
-    outcome(on_two::<2, 4, Move>(stride, w))
+    judge_read(on_two::<2, 4, Move>(stride, w))
 }
 
 pub fn reorder_schur_stopping(stride: Stride, w: &[u64]) -> Outcome
     ensures { result ≡ Lines.reorder_schur_stopping (more stride) w.now }
 {
-    outcome(on_two::<2, 5, StoppingMove>(stride, w))
+    judge_read(on_two::<2, 5, StoppingMove>(stride, w))
 }
 
 pub fn schur_swap(stride: Stride, w: &[u64]) -> Outcome
     ensures { result ≡ Lines.schur_swap (more stride) w.now }
 {
-    outcome(on_two::<3, 3, Exchange>(stride, w))
+    judge_read(on_two::<3, 3, Exchange>(stride, w))
 }

@@ -4,6 +4,7 @@ ghost use Rattle.replay_text.specs.Counts as Counts;
 
 use crate::name::{CALLS, Call};
 use crate::outcome::Outcome;
+use std::ops::Add;
 
 // How many lines were run, and how many of them differ.
 #[derive(Clone, Copy, Debug, Default, PartialEq, Eq)]
@@ -12,10 +13,13 @@ pub struct Count {
     pub differ: u64,
 }
 
-impl Count {
-    fn plus(self, other: Count) -> Count
-        ensures { result ≡ Counts.plus self other }
-    {
+// Two counts together, in 64 bits.
+impl Add for Count {
+    type Output = Count;
+
+    ghost add_gives = { λ a b c. c ≡ Counts.plus a b };
+
+    fn add(self, other: Count) -> Count {
         Count {
             run: self.run.wrapping_add(other.run),
             differ: self.differ.wrapping_add(other.differ),
@@ -75,6 +79,6 @@ impl Tally {
     {
         self.calls
             .iter()
-            .fold(Count::default(), |sum, count| sum.plus(*count))
+            .fold(Count::default(), |sum, count| sum + *count)
     }
 }

@@ -5,7 +5,8 @@ ghost use Rattle.replay_text.specs.Names as Names;
 // How many calls there are.
 pub const CALLS: usize = 30;
 
-// The calls, in the order of the report. Lines of those with Ld have a stride.
+// The calls, in the order of the report. Lines of those with Ld have a stride. It is no field of a case: `as` would
+// not number the cases then, and places of counts, names and the report's order would be a list more for each.
 #[derive(Clone, Copy, Debug, PartialEq, Eq)]
 pub enum Call {
     Abs,
@@ -74,7 +75,8 @@ impl Call {
         Call::ReorderSchurStoppingLd,
     ];
 
-    // Its name, with spaces after it.
+    // Its name, with spaces after it: what a row of the report begins with. `{:<28}` would add them in printing, and
+    // no contract says what that prints.
     pub fn name(self) -> &'static [u8; 28]
         ensures { result.now ≡ Names.name_of self }
     {
@@ -132,7 +134,8 @@ fn padded(name: &[u8]) -> Option<[u8; 28]>
     Some(out)
 }
 
-// The call of the name that a line begins with.
+// The call of the name that a line begins with. As a `TryFrom` it would have a type of error, of which a caller
+// wants nothing but that it is there.
 pub fn call_named(name: &[u8]) -> Option<Call>
     ensures { result ≡ Names.call_named name.now }
 {

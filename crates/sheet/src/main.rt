@@ -30,6 +30,6 @@ fn main(rt: HostRuntime) -> io::Result<()> {
     let mut text = [0; TEXT_ROOM];
     let n = read_full(&mut rt.stdin(), &mut text);
     let mut out = [0; SHEET_ROOM];
-    let k = sheet(&mut out, &text[..n]);
+    let k = sheet(&mut out, &text[..n]).unwrap();
     rt.write_all(&out[..k])
 }

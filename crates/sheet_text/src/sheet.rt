@@ -1,7 +1,7 @@
 // A sheet whole. The text is read leniently, what was read is printed as a text again, and only
 // where that is the text that came is the text laid out as document 01 asks. That `out` has room for a
 // sheet is asked by each function: a struct that holds a `&mut` can have no ghost field that says it.
-ghost use Rattle.std.specs.Prelude.{◌≡◌, ◌≤◌, ◌<◌, ◌+◌, ◌*◌, true, length, replicate, OnOk, IfOk, IfErr};
+ghost use Rattle.std.specs.Prelude.{◌≡◌, ◌≤◌, ◌<◌, ◌+◌, ◌*◌, ◌↔◌, true, length, replicate, IfOk, IfErr, IsSome, unwrap_or};
 ghost use Rattle.model.specs.Text as Text;
 ghost use Rattle.refusal.specs.Line.{line};
 ghost use Rattle.sheet_words.specs.Put.{Put};
@@ -18,14 +18,15 @@ use sheet_words::request::Request;
 // The bytes that a text has at most.
 pub const TEXT_BYTES: usize = 40000;
 
-// The words of a form or a factor that are read: 40,000 bytes hold at most 2352 words of 17 bytes. They
-// have arrays of this size, since nothing here allocates.
+// So many words of a form or a factor are read: 40,000 bytes hold at most 2352 words of 17 bytes. They are kept in
+// arrays of this size, since nothing here allocates.
 const WORD_ROOM: usize = 2353;
 
 // Bytes that any sheet fits: 140 and 17 for each of 2 × 2353 words.
 pub const SHEET_ROOM: usize = 81000;
 
-// Where the `=` before the factor's words stands, k words after the one at place q.
+// Where the `=` of the line `u=` stands: q is the place of the `=` in the line `t=` above it, which has k words.
+// A word takes 17 bytes, the `=` or the space before it and 16 digits. With no word the `=` alone takes one.
 #[tactic(auto, unfolding(model::specs::Text::factor_place))]
 fn factor_place(q: usize, k: usize) -> usize
     requires { (q ≤ 1000) × (k ≤ 10000) }
@@ -66,7 +67,7 @@ fn is_text_of(out: &mut [u8], s: &[u8], r: &Request) -> bool
     s == &out[..k]
 }
 
-// The request whose text this is, or why there is none of at most 32 rows. `out` holds anything then.
+// The request whose text this is, or why there is none of at most 32 rows. `out` may hold anything after it.
 fn request_in<'a>(
     out: &mut [u8],
     t: &'a mut [u64; WORD_ROOM],
@@ -126,16 +127,17 @@ fn sheet_of(out: &mut [u8], input: &[u8]) -> Result<usize, Refusal>
     run(out, &found?)
 }
 
-// The sheet of a text at the start of `out`, and zeros after it: answers how many bytes it has. Where
-// `out` has less room than any sheet fits, 0, and it stays.
-pub fn sheet(out: &mut [u8], input: &[u8]) -> usize
-    ensures { (record { count = result; buffer = out.new }) ≡ Text.sheet_call out.old input.now }
+// The sheet of a text at the start of `out`, and zeros after it: answers how many bytes it has. None where
+// `out` has less room than any sheet fits, and it stays.
+pub fn sheet(out: &mut [u8], input: &[u8]) -> Option<usize>
+    ensures call { (record { count = unwrap_or result 0; buffer = out.new }) ≡ Text.sheet_call out.old input.now }
+    ensures variant { IsSome result ↔ (Text.sheet_room ≤ length out.old) }
 {
     if out.len() < SHEET_ROOM {
-        return 0;
+        return None;
     }
     match sheet_of(out, input) {
-        Ok(count) => count,
-        Err(refusal) => put_answer(out, usize::from(refusal)),
+        Ok(count) => Some(count),
+        Err(refusal) => Some(put_answer(out, usize::from(refusal))),
     }
 }

@@ -22,7 +22,7 @@ pub fn number(s: &[u8], at: usize) -> (usize, usize)
     (value, at + 4)
 }
 
-// The word of the 16 digits from a place on. Any other byte counts as a 0.
+// The word of the 16 digits from a place on. Any other byte counts as a 0; in `replay_text::word` it is no word.
 fn word(s: &[u8], at: usize) -> u64
     requires { at + 16 ≤ length s.now }
     ensures { result ≡ Text.digits_from s.now 16 at 0 }
@@ -44,7 +44,7 @@ fn more(s: &[u8], p: usize) -> bool
 }
 
 // The words from a place on, each after one byte; as many as there are, or as `out` has room for. The rest
-// of `out` stays.
+// of `out` stays: by index, since of a slice that `iter_mut` fills a proof knows only the length.
 pub fn words(out: &mut [u64], s: &[u8], at: usize) -> usize
     requires { (at ≤ 200000) × (length out.old ≤ 10000) }
     ensures { (result ≤ length out.new) × Put out.old 0 (Text.words_at s.now (length out.old) at) out.new result }

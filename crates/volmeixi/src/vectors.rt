@@ -4,19 +4,8 @@ ghost use Rattle.std.specs.Prelude.{◌≡◌};
 ghost use Rattle.std.specs.Float.{binary64};
 ghost use Rattle.model.specs.Values as Values;
 ghost use Rattle.model.specs.Vectors as Vectors;
-ghost use Rattle.refusal.specs.Line.{answer};
 
-use refusal::Refusal;
-
-// What a call answers: 0, or the number of the line that turned it away.
-fn answer(r: Result<(), Refusal>) -> usize
-    ensures { result ≡ answer r }
-{
-    match r {
-        Ok(()) => 0,
-        Err(refusal) => usize::from(refusal),
-    }
-}
+use refusal::number;
 
 // The values of the form's blocks, each 2-block read as it stands: 0, or the first line that
 // applies.
@@ -30,7 +19,7 @@ pub extern "C" fn vx_block_values(
 ) -> usize
     ensures { (record { answer = result; parts = record { re = re.new; im = im.new } }) ≡ Values.block_values binary64 ld n t.now (record { re = re.old; im = im.old }) }
 {
-    answer(values::blocks::block_values(n, ld, t, re, im))
+    number(&values::blocks::block_values(n, ld, t, re, im))
 }
 
 // The same of a copy of each 2-block that is standardised first: 0, or the first line that applies.
@@ -44,7 +33,7 @@ pub extern "C" fn vx_standardised_values(
 ) -> usize
     ensures { (record { answer = result; parts = record { re = re.new; im = im.new } }) ≡ Values.standardised_values binary64 ld n t.now (record { re = re.old; im = im.old }) }
 {
-    answer(values::blocks::standardised_values(n, ld, t, re, im))
+    number(&values::blocks::standardised_values(n, ld, t, re, im))
 }
 
 // The form's vectors, column by column: 0, or the first line that applies.
@@ -52,5 +41,5 @@ pub extern "C" fn vx_standardised_values(
 pub extern "C" fn vx_evd_from_real_schur(n: usize, ld: usize, t: &[f64], v: &mut [f64]) -> usize
     ensures { (record { answer = result; v = v.new }) ≡ Vectors.evd_from_real_schur binary64 ld n t.now v.old }
 {
-    answer(evd::vectors::evd_from_real_schur(n, ld, t, v))
+    number(&evd::vectors::evd_from_real_schur(n, ld, t, v))
 }
