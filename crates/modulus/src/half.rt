@@ -4,7 +4,7 @@ ghost use Rattle.laws.specs.Cut.{NearestHalf};
 ghost use Rattle.modulus.specs.Modulus.{wide};
 
 use crate::squares::{Long, Wide, square};
-use digits::whole::{Radicand, left, near_half};
+use digits::whole::{Radicand, left};
 use std::cmp::Ordering;
 
 impl Long {
@@ -61,7 +61,7 @@ impl Long {
         let Wide { high, low } = self.whole;
         let first = Radicand { digits: high };
         let x = high * 0x400 + low / 0x1000_0000_0000;
-        match near_half(high, x, first.near_inverse()) {
+        match first.near_half(x) {
             Some(k) if self.between(k) => k,
             Some(k) => self.beside(k),
             None => self.stepped(0),
