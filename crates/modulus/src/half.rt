@@ -40,6 +40,7 @@ impl Long {
 
     // Half the root, rounded, where k is near and fails the test: one more or one less by the same test,
     // else worked out.
+    #[tactic(auto, using(crate::proofs::Tested::tested))]
     fn beside(self, k: u64) -> u64
         requires { (1 < k) × (k < 2 ^ 54) }
         ensures { NearestHalf (wide self.whole.high self.whole.low) self.rest 0 result }
@@ -55,6 +56,7 @@ impl Long {
 
     // Half the root, rounded. How its digits are found is free, since they are tested: where the test fails,
     // about once in 170, they are one off, or it is a tie.
+    #[tactic(auto, using(crate::proofs::Tested::tested))]
     pub fn nearest_half(self) -> u64
         ensures { NearestHalf (wide self.whole.high self.whole.low) self.rest 0 result }
     {
