@@ -118,6 +118,7 @@ impl Radicand {
 
     // The root of d * 2^52, rounded to the nearest. How its digits are found is free, since they are tested;
     // where the test fails, about once in 200, they are worked out.
+    #[tactic(auto, using(crate::proofs::Short::short))]
     pub fn nearest_root(self) -> u64
         ensures { result ≡ (Root.root (self.digits * 2 ^ 54) + 1) / 2 }
     {

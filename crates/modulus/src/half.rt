@@ -10,6 +10,7 @@ use std::cmp::Ordering;
 impl Long {
     // Half the root, rounded to units of 2^s, from the root of the high limb: the low one lifts it by less
     // than a half, so that it is k units or k + 1; which, the square of the number between them says.
+    #[tactic(auto, using(digits::proofs::Short::short))]
     pub fn stepped(self, s: u32) -> u64
         requires { s < 53 }
         ensures { NearestHalf (wide self.whole.high self.whole.low) self.rest s result }

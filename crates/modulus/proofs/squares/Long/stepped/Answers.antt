@@ -8,17 +8,6 @@ use Rattle.modulus.proofs.Limbs.{by_limbs}
 use Rattle.modulus.proofs.Step.{fits, stays, steps, ties}
 use Rattle.modulus.proofs.squares.Long.stepped.Goals as goal
 
-pub overflow_add-k : goal.overflow_add-k
-overflow_add-k c = omega (arith, short _ _ c.args.self.most c.whole_root.ensures)
-
-pub overflow_mul-k : goal.overflow_mul-k
-overflow_mul-k c =
-    omega (arith, short _ _ c.args.self.most c.whole_root.ensures, div-le_self ((c.whole_root.result + 1) / 2) (2 ^ c.args.s))
-
-pub overflow_add-k-2 : goal.overflow_add-k-2
-overflow_add-k-2 c =
-    omega (arith, short _ _ c.args.self.most c.whole_root.ensures, div-le_self ((c.whole_root.result + 1) / 2) (2 ^ c.args.s))
-
 pub square-requires : goal.square-requires
 square-requires c = fits c.args.self c.requires c.whole_root.ensures
 
