@@ -1,12 +1,12 @@
--- `modulus::squares::Long::stepped` meets its contract: the two limbs are compared with the square's. Assumes nothing.
+-- `modulus::limbs::Long::stepped` meets its contract: the two limbs are compared with the square's. Assumes nothing.
 use Prim.Native.Nat.{◌+◌, ◌/◌, ◌^◌}
 use native.Mathlib.Nat.{div-le_self}
 use native.Mathlib.Omega.{arith}
 use Rattle.digits.proofs.Short.{short}
 use Rattle.std.proofs.Common.{Less, Equal, Greater}
-use Rattle.modulus.proofs.Limbs.{by_limbs}
+use Rattle.modulus.proofs.Ordered.{by_limbs}
 use Rattle.modulus.proofs.Step.{fits, stays, steps, ties}
-use Rattle.modulus.proofs.squares.Long.stepped.Goals as goal
+use Rattle.modulus.proofs.limbs.Long.stepped.Goals as goal
 
 pub square-requires : goal.square-requires
 square-requires c = fits c.args.self c.requires c.whole_root.ensures
