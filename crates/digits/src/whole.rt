@@ -1,5 +1,5 @@
 // Roots of whole numbers: of 54 digits for a number of 108, by a table, Newton's step and an exact test.
-ghost use Rattle.std.specs.Prelude.{◌≡◌, ◌+◌, ◌*◌, ◌/◌, ◌<◌, ◌≤◌, ◌^◌, eqb};
+ghost use Rattle.std.specs.Prelude.{◌≡◌, ℕ, ◌+◌, ◌*◌, ◌/◌, ◌<◌, ◌≤◌, ◌^◌, eqb};
 ghost use Rattle.model.specs.Root as Root;
 ghost use Rattle.digits.specs.Digits.{Left, NearInverse, NewtonStep, NearHalf};
 
@@ -30,32 +30,6 @@ pub fn left(x: u64, y: u64, end: u64) -> Option<u64>
     } else {
         None
     }
-}
-
-// One step of Newton's, without a division, from y near 2^32 / √m, with m = d / 2^52: a root just below
-// 2^31 * √m, and a better y.
-fn near_root(d: u64, y: u64) -> Near
-    requires { (d < 2 ^ 54) × NearInverse d y }
-    ensures { NewtonStep d y result.root result.inverse }
-{
-    let t = d / 0x40_0000 * y / 0x8000_0000 % 0x1_0000_0000;
-    let step = 0xbfff_ffff - t * y / 0x2_0000_0000;
-    Near {
-        root: t * step / 0x8000_0000 % 0x1_0000_0000,
-        inverse: y * step / 0x8000_0000 % 0x1_0000_0000,
-    }
-}
-
-// Half the root of a number of 108 digits, nearly, from its first 54, d, and its first 64, x, and the
-// inverse of the root. After the step of Newton's, the digits that are left are those of what is left of
-// x, over twice the root. None, where the step's root is not near.
-pub fn near_half(d: u64, x: u64, y: u64) -> Option<u64>
-    requires { (d < 2 ^ 54) × NearInverse d y × (2 ^ 62 ≤ x) }
-    ensures { NearHalf d x y result }
-{
-    let Near { root, inverse } = near_root(d, y);
-    let rest = left(x, root * root, 0xf_0000_0000)?;
-    Some(root * 0x20_0000 + (rest / 16 * inverse + 0x41_0000_0000) / 0x80_0000_0000)
 }
 
 impl Radicand {
@@ -89,12 +63,39 @@ impl Radicand {
 
     // A number near 2^32 / √m, with m = d / 2^52: on a line of the table, within one part in 2^14. Promised
     // is that it is no higher than where the line starts, and no lower than where it ends.
-    pub fn near_inverse(self) -> u64
+    fn near_inverse(self) -> u64
         ensures { NearInverse self.digits result }
     {
         let line = line_at(self.digits / 0x8000_0000_0000);
         let along = self.digits / 0x8000 % 0x1_0000_0000;
         line / 0x100_0000 * 0x100 - line % 0x100_0000 * along / 0x100_0000
+    }
+
+    // One step of Newton's, without a division, from such a number y: a root just below 2^31 * √m, and a
+    // better y.
+    fn near_root(self) -> Near
+        ensures step { (y : ℕ) × NearInverse self.digits y × NewtonStep self.digits y result.root result.inverse }
+        ensures fits { (result.root < 2 ^ 32) × (result.inverse < 2 ^ 32) }
+    {
+        let y = self.near_inverse();
+        let t = self.digits / 0x40_0000 * y / 0x8000_0000 % 0x1_0000_0000;
+        let step = 0xbfff_ffff - t * y / 0x2_0000_0000;
+        Near {
+            root: t * step / 0x8000_0000 % 0x1_0000_0000,
+            inverse: y * step / 0x8000_0000 % 0x1_0000_0000,
+        }
+    }
+
+    // Half the root of a number of 108 digits, nearly, from these, its first 54, and from its first 64, x. After
+    // the step of Newton's, the digits that are left are those of what is left of x, over twice the root. None,
+    // where the step's root is not near.
+    pub fn near_half(self, x: u64) -> Option<u64>
+        requires { 2 ^ 62 ≤ x }
+        ensures { (y : ℕ) × NearInverse self.digits y × NearHalf self.digits x y result }
+    {
+        let Near { root, inverse } = self.near_root();
+        let rest = left(x, root * root, 0xf_0000_0000)?;
+        Some(root * 0x20_0000 + (rest / 16 * inverse + 0x41_0000_0000) / 0x80_0000_0000)
     }
 
     // Whether k is the root of d * 2^52, rounded to the nearest. With r = 2 * k - 1 that is r * r <= d *
@@ -117,10 +118,11 @@ impl Radicand {
 
     // The root of d * 2^52, rounded to the nearest. How its digits are found is free, since they are tested;
     // where the test fails, about once in 200, they are worked out.
+    #[tactic(auto, using(crate::proofs::Short::short))]
     pub fn nearest_root(self) -> u64
         ensures { result ≡ (Root.root (self.digits * 2 ^ 54) + 1) / 2 }
     {
-        match near_half(self.digits, self.digits * 0x400, self.near_inverse()) {
+        match self.near_half(self.digits * 0x400) {
             Some(k) if self.is_nearest(k) => k,
             _ => (self.whole_root() + 1) / 2,
         }

@@ -3,4 +3,4 @@ pub mod Step
 pub mod Fit
 pub mod Pattern
 pub mod Tested
-pub mod Limbs
+pub mod Ordered

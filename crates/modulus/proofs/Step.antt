@@ -11,7 +11,7 @@ use Rattle.laws.specs.Cut.{NearestHalf}
 use Rattle.laws.proofs.WholeRoot.{root_is, le_root}
 use Rattle.laws.proofs.HalfRoot.{one_less}
 use Rattle.digits.proofs.Short.{short}
-use Rattle.modulus.specs.declared.squares.Long.{Long}
+use Rattle.modulus.specs.declared.limbs.Long.{Long}
 use Rattle.modulus.specs.Modulus.{wide, Square}
 
 -- R is the root of the high limb with 54 zeros after it, k0 half of it, rounded, and k is k0 without its last s digits

@@ -1,1 +1,2 @@
 pub mod Modulus
+pub mod Limbs

@@ -6,7 +6,8 @@ ghost use Rattle.model.specs.Arith as Arith;
 ghost use Rattle.laws.specs.HalfDigits.{HalfDigits};
 ghost use Rattle.modulus.specs.Modulus.{four_sums};
 
-use crate::squares::{Normal, sum_of_squares};
+use crate::limbs::Normal;
+use crate::squares::sum_of_squares;
 use digits::number::{HIDDEN, INFINITE, Positive, Scaled, shift_of};
 
 // The digits of the modulus of x * 2^d and y, x with all 53 digits: d + power zeros follow them.

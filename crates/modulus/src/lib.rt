@@ -3,4 +3,5 @@
 
 pub mod bits;
 mod half;
+mod limbs;
 mod squares;

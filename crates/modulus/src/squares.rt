@@ -1,14 +1,8 @@
-// Squares of 54 digits and their sums, exactly, in two limbs: high * 2^54 + low.
+// Squares of 54 digits and their sums, exactly, in two limbs.
 ghost use Rattle.std.specs.Prelude.{◌≡◌, ◌/◌, ◌%◌, ◌<◌, ◌≤◌, ◌^◌};
-ghost use Rattle.modulus.specs.Modulus.{Square, Sum, Fitted};
+ghost use Rattle.modulus.specs.Limbs.{IsSquare, IsSum, IsFitted};
 
-// A whole number in two limbs.
-#[derive(Clone, Copy, PartialEq, Eq, PartialOrd, Ord)]
-pub struct Wide {
-    pub high: u64,
-    pub low: u64,
-    pub ghost short: { low < 2 ^ 54 },
-}
+use crate::limbs::{Long, Normal, Wide, WithRest};
 
 // A number cut at 2^s.
 #[derive(Clone, Copy)]
@@ -17,33 +11,10 @@ struct Parted {
     pub below: u64,
 }
 
-// The whole part of a sum of squares, and what is left of it.
-#[derive(Clone, Copy)]
-pub struct WithRest {
-    pub whole: Wide,
-    pub rest: u64,
-}
-
-// A number of 107 or 108 digits, and a rest that is 0 exactly where nothing is left below.
-#[derive(Clone, Copy)]
-pub struct Long {
-    pub whole: Wide,
-    pub rest: u64,
-    pub ghost least: { 2 ^ 52 ≤ whole.high },
-    pub ghost most: { whole.high < 2 ^ 54 },
-}
-
-// A number cut to that by `power` pairs of digits.
-#[derive(Clone, Copy)]
-pub struct Normal {
-    pub long: Long,
-    pub power: u64,
-}
-
 // The square of x, by the halves of x.
 pub fn square(x: u64) -> Wide
     requires { x < 2 ^ 55 }
-    ensures { Square x result.high result.low }
+    ensures { IsSquare x result }
 {
     let s = x / 0x800_0000;
     let q = x % 0x800_0000;
@@ -70,7 +41,7 @@ fn part(x: u64, s: u32) -> Parted
 // x * x + y * y / 4^d, and what the division leaves.
 pub fn sum_of_squares(x: u64, y: u64, d: u64) -> WithRest
     requires { (x < 2 ^ 54) × (y < 2 ^ 54) × (d < 27) }
-    ensures { Sum x y d result.whole.high result.whole.low result.rest }
+    ensures { IsSum x y d result }
 {
     let a = square(x);
     let b = square(y);
@@ -97,7 +68,7 @@ impl WithRest {
     // At most 108 digits of a sum of two squares: one pair fewer, where there are more.
     pub fn fitted(self) -> Normal
         requires { (2 ^ 52 ≤ self.whole.high) × (self.whole.high < 2 ^ 55) × (self.rest < 2 ^ 54) }
-        ensures { Fitted self.whole.high self.whole.low self.rest result.long.whole.high result.long.whole.low result.long.rest result.power }
+        ensures { IsFitted self result }
     {
         let WithRest { whole, rest } = self;
         let Wide { high, low } = whole;

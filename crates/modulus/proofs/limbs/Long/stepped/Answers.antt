@@ -1,23 +1,12 @@
--- `modulus::squares::Long::stepped` meets its contract: the two limbs are compared with the square's. Assumes nothing.
+-- `modulus::limbs::Long::stepped` meets its contract: the two limbs are compared with the square's. Assumes nothing.
 use Prim.Native.Nat.{◌+◌, ◌/◌, ◌^◌}
 use native.Mathlib.Nat.{div-le_self}
 use native.Mathlib.Omega.{arith}
 use Rattle.digits.proofs.Short.{short}
 use Rattle.std.proofs.Common.{Less, Equal, Greater}
-use Rattle.modulus.proofs.Limbs.{by_limbs}
+use Rattle.modulus.proofs.Ordered.{by_limbs}
 use Rattle.modulus.proofs.Step.{fits, stays, steps, ties}
-use Rattle.modulus.proofs.squares.Long.stepped.Goals as goal
-
-pub overflow_add-k : goal.overflow_add-k
-overflow_add-k c = omega (arith, short _ _ c.args.self.most c.whole_root.ensures)
-
-pub overflow_mul-k : goal.overflow_mul-k
-overflow_mul-k c =
-    omega (arith, short _ _ c.args.self.most c.whole_root.ensures, div-le_self ((c.whole_root.result + 1) / 2) (2 ^ c.args.s))
-
-pub overflow_add-k-2 : goal.overflow_add-k-2
-overflow_add-k-2 c =
-    omega (arith, short _ _ c.args.self.most c.whole_root.ensures, div-le_self ((c.whole_root.result + 1) / 2) (2 ^ c.args.s))
+use Rattle.modulus.proofs.limbs.Long.stepped.Goals as goal
 
 pub square-requires : goal.square-requires
 square-requires c = fits c.args.self c.requires c.whole_root.ensures

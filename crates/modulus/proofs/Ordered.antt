@@ -3,7 +3,7 @@ use Rattle.std.proofs.Common.{◌≡◌, ℕ, ◌<◌, Less, Equal, Greater, ari
 use Rattle.std.specs.declared.cmp.Ordering.{Ordering}
 use Rattle.std.specs.Ordering.{MatchOrdering, ordering_then, nat_cmp}
 use Rattle.std.specs.Cmp.{ranks}
-use Rattle.modulus.specs.declared.squares.Wide.{Wide}
+use Rattle.modulus.specs.declared.limbs.Wide.{Wide}
 use Rattle.modulus.specs.Modulus.{wide}
 
 abbrev Ranks : ℕ → ℕ → Ordering → Type 0
