@@ -107,6 +107,14 @@ impl<const A: usize, const B: usize> Reflectors<A, B> {
         let second = Reflector::of(first.reflect(b));
         Reflectors { first, second }
     }
+
+    // N numbers reflected by the first, and then by the second.
+    fn reflect<const N: usize>(&self, x: [f64; N]) -> [f64; N]
+        requires { (A + 1 ≤ N) × (B + 1 ≤ N) }
+        ensures { result ≡ reflects_from B (N - (B + 1)) self.now.second.tau self.now.second.v (reflects_from A (N - (A + 1)) self.now.first.tau self.now.first.v x.entry) }
+    {
+        self.second.reflect(self.first.reflect(x))
+    }
 }
 
 impl Kernel<3> for Reflectors<2, 1> {
@@ -119,7 +127,7 @@ impl Kernel<3> for Reflectors<2, 1> {
     fn apply(self, x: [f64; 3]) -> [f64; 3]
         ensures { result ≡ reflected3 (reflection3 self) x }
     {
-        self.second.reflect(self.first.reflect(x))
+        self.reflect(x)
     }
 }
 
@@ -133,6 +141,6 @@ impl Kernel<4> for Reflectors<3, 2> {
     fn apply(self, x: [f64; 4]) -> [f64; 4]
         ensures { result ≡ reflected4 (reflection4 self) x }
     {
-        self.second.reflect(self.first.reflect(x))
+        self.reflect(x)
     }
 }

@@ -1,7 +1,8 @@
 -- `swaps::operations::on_columns` meets its contract. Assumes nothing.
-use Rattle.std.proofs.Common.{◌≡◌, ℕ, ◌<◌, length, get_or}
+use Rattle.std.proofs.Common.{◌≡◌, ℕ, length, get_or}
 use Rattle.model.specs.Form.{place}
 use Rattle.swaps.specs.Lines.{change_run}
+use Rattle.swaps.proofs.Windows.{Filled}
 use Rattle.swaps.proofs.operations.on_columns.Given as goal
 
 abbrev pub invariant-loop-i : goal.invariant-loop-i
@@ -10,4 +11,4 @@ invariant-loop-i g l =
     × (l.t ≡ change_run g.row.N (g.K.Kernel.gives l.k) 1 l.i 0 (λ (m : ℕ). place l.s.ld 0 (get_or l.columns m 0)) l.initial.t)
 
 abbrev pub invariant-loop-m : goal.invariant-loop-m
-invariant-loop-m g l = (length l.places ≡ g.row.N) × ((m : ℕ) → m < l.m → get_or l.places m 0 ≡ place l.s.ld l.i (get_or l.columns m 0))
+invariant-loop-m g l = Filled g.row.N (λ (m : ℕ). place l.s.ld l.i (get_or l.columns m 0)) 0 l.m l.places

@@ -1,7 +1,8 @@
 -- `swaps::operations::on_rows` meets its contract. Assumes nothing.
-use Rattle.std.proofs.Common.{◌≡◌, ℕ, ◌-◌, ◌<◌, length, get_or}
+use Rattle.std.proofs.Common.{◌≡◌, ℕ, ◌-◌, length, get_or}
 use Rattle.model.specs.Form.{place}
 use Rattle.swaps.specs.Lines.{change_run}
+use Rattle.swaps.proofs.Windows.{Filled}
 use Rattle.swaps.proofs.operations.on_rows.Given as goal
 
 abbrev pub invariant-loop-c : goal.invariant-loop-c
@@ -10,4 +11,4 @@ invariant-loop-c g l =
     × (l.t ≡ change_run g.row.N (g.K.Kernel.gives l.k) l.s.ld (l.c - l.j) 0 (λ (m : ℕ). place l.s.ld (get_or l.rows m 0) l.j) l.initial.t)
 
 abbrev pub invariant-loop-m : goal.invariant-loop-m
-invariant-loop-m g l = (length l.places ≡ g.row.N) × ((m : ℕ) → m < l.m → get_or l.places m 0 ≡ place l.s.ld (get_or l.rows m 0) l.c)
+invariant-loop-m g l = Filled g.row.N (λ (m : ℕ). place l.s.ld (get_or l.rows m 0) l.c) 0 l.m l.places

@@ -4,4 +4,4 @@ use Rattle.swaps.proofs.Twice.{twice3}
 use Rattle.swaps.proofs.kernels.Reflectors21Kernel3.apply.Goals as goal
 
 pub returns : goal.returns
-returns c = rw (c.reflect-2.ensures, c.reflect.ensures) (twice3 c.args.self c.args.x (search rules))
+returns c = rw c.reflect.ensures (twice3 c.args.self c.args.x (search rules))

@@ -1,7 +1,7 @@
 -- `swaps::window::Window::changed` meets its contract. Assumes nothing.
-use Rattle.std.proofs.Common.{◌≡◌, ℕ, ◌<◌, [], length, get_or}
+use Rattle.std.proofs.Common.{ℕ, [], get_or}
+use Rattle.swaps.proofs.Windows.{Filled}
 use Rattle.swaps.proofs.window.Window.changed.Given as goal
 
 abbrev pub invariant-loop-c : goal.invariant-loop-c
-invariant-loop-c g l =
-    (length l.columns ≡ g.row.N) × ((k : ℕ) → k < l.c → get_or l.columns k [] ≡ g.K.Kernel.gives l.k (get_or l.self.columns k []))
+invariant-loop-c g l = Filled g.row.N (λ (k : ℕ). g.K.Kernel.gives l.k (get_or l.self.columns k [])) [] l.c l.columns
