@@ -43,7 +43,6 @@ fn form_norm(s: Shape, t: &[f64]) -> f64
 
 // What f makes of each number of `from`, in `to`. By index there: of a loop over iter_mut and zip, a proof knows only
 // the length of what is filled.
-#[tactic(auto, using(crate::proofs::Part::all_filled))]
 fn fill<F: Fn(f64) -> f64>(to: &mut [f64], from: &[f64], f: F)
     requires { F.IsAlwaysCallable f × (length from.now ≡ length to.old) }
     ensures { (g : Float → Float) → ((x y : Float) → F.post f x y → y ≡ g x) → to.new ≡ map g from.now }
