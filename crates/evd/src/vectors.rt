@@ -88,7 +88,7 @@ fn start_block(s: Shape, j: usize, own: Start, v: &mut [f64])
     s.put(v, j + 1, j, 0.0);
 }
 
-// The form whose vectors are made.
+// The form whose vectors are made, and its sum of magnitudes.
 #[derive(Clone, Copy)]
 struct Columns<'a> {
     s: Shape,
