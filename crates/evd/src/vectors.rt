@@ -43,7 +43,6 @@ fn form_norm(s: Shape, t: &[f64]) -> f64
 
 // What f makes of each number of `from`, in `to`. By index there: of a loop over iter_mut and zip, a proof knows only
 // the length of what is filled.
-#[tactic(auto, using(crate::proofs::Part::all_filled))]
 fn fill<F: Fn(f64) -> f64>(to: &mut [f64], from: &[f64], f: F)
     requires { F.IsAlwaysCallable f × (length from.now ≡ length to.old) }
     ensures { (g : Float → Float) → ((x y : Float) → F.post f x y → y ≡ g x) → to.new ≡ map g from.now }
@@ -89,7 +88,7 @@ fn start_block(s: Shape, j: usize, own: Start, v: &mut [f64])
     s.put(v, j + 1, j, 0.0);
 }
 
-// The form whose vectors are made.
+// The form whose vectors are made, and its sum of magnitudes.
 #[derive(Clone, Copy)]
 struct Columns<'a> {
     s: Shape,
@@ -112,7 +111,6 @@ impl Columns<'_> {
     }
 
     // A 2-block's columns j and j + 1, before the rows above it are solved for; its imaginary size.
-    #[tactic(auto, using(crate::proofs::Places::side_by_side))]
     fn open_columns(&self, j: usize, v: &mut [f64]) -> f64
         requires { Holds self.now.s v.old × (j + 1 < self.now.s.n) }
         ensures { (result ≡ imag_size_at binary64 self.now.s.ld self.now.t.now j) × (v.new ≡ Vectors.open_columns binary64 self.now.s.ld self.now.t.now j v.old) }
@@ -123,6 +121,7 @@ impl Columns<'_> {
         let q = imag_size(c, b);
         let own = start_of(b, c, q);
         start_block(s, j, own, &mut *v);
+        // above the block, the form's two columns times the negated diagonal numbers
         let left = s.place(0, j);
         let right = s.place(0, j + 1);
         fill(
@@ -149,7 +148,6 @@ impl EachBlock for Columns<'_> {
     ghost two = { λ m. Vectors.cplx_columns binary64 m.s.ld m.t.now m.norm };
 
     // A 1-block's column k: 1 in row k, and above it the solution.
-    #[tactic(auto)]
     fn one(&self, k: usize, v: &mut [f64]) {
         let s = self.s;
         let p = s.get(self.t, k, k);

@@ -28,7 +28,7 @@ pub struct Two {
     pub d1: f64,
 }
 
-// Two rows of lhs with rhs: even and odd places apart, added last.
+// Two rows of lhs, each with rhs: the products at even places and those at odd places are summed apart, and added last.
 #[tactic(auto, using(crate::proofs::Sums::halves_all, crate::proofs::Sums::halves_next, crate::proofs::Sums::halves_last, crate::proofs::Sums::halves_done))]
 pub fn dot2x1(lhs0: Strided, lhs1: Strided, rhs: Strided) -> Two
     requires { (lhs1.count ≡ lhs0.count) × (rhs.count ≡ lhs0.count) }

@@ -1,7 +1,8 @@
 // The matrix of a system: a form's first rows, with a shift taken off the diagonal.
 use crate::leading::Leading;
 
-// The shift S is f64 or Complex. What a solver divides by is not taken below eps * norm.
+// The shift S is f64 or Complex. A divisor below eps * norm is replaced by that, but for the determinants of real
+// 2-blocks.
 #[derive(Clone, Copy)]
 pub struct Shifted<'a, S> {
     pub a: Leading<'a>,

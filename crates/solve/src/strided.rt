@@ -14,7 +14,7 @@ pub struct Strided<'a> {
 impl<'a> Strided<'a> {
     ghost use Rattle.solve.specs.Numbers.{numbers};
 
-    // Those side by side.
+    // `count` numbers side by side, from place `start` on.
     pub fn run(list: &'a [f64], start: usize, count: usize) -> Strided<'a>
         requires { start + count ≤ length list.now }
         ensures { (result.list.now ≡ list.now) × (result.start ≡ start) × (result.step ≡ 1) × (result.count ≡ count) }
@@ -27,7 +27,7 @@ impl<'a> Strided<'a> {
         }
     }
 
-    // The k-th of them.
+    // The k-th number.
     pub fn at(self, k: usize) -> f64
         requires { k < self.count }
         ensures { result ≡ numbers self.entry k }

@@ -1,13 +1,11 @@
 -- The lines of a call on a form and two buffers, by those of sizes, which are told first. Assumes nothing.
 use mathlib.Core.Path.{◌≡◌, refl, sym, ◌∙◌}
-use mathlib.Core.Logic.{◌⊎◌, inl, inr}
 use mathlib.Core.Bool.{Bool, true, false, not, ◌||◌, cond}
 use mathlib.Core.List.{List}
 use Prim.Native.Nat.{ℕ}
 use lib.Dec.{eqb}
 use lib.ListN.{length}
 use lib.Ieee.{Float, binary64}
-use borrow.Author.Tests.{eq-eqb, ne_eqb}
 use Rattle.model.specs.Values.{Parts, values_line}
 use Rattle.form.specs.Lines.{further_line, size_line, shape_line}
 use Rattle.form.proofs.Accepted.{further_first}
@@ -27,10 +25,3 @@ two_buffers ld n t s = rw (joined (not (eqb (length s.re) n)) (not (eqb (length 
 pub values_first : (ld n : ℕ) (t : List Float) (s : Parts)
     → values_line binary64 ld n t s ≡ cond (eqb (size_line ld n t) 0) (cond (wrong n (length s.re) (length s.im)) 4 (shape_line ld n t)) (size_line ld n t)
 values_first ld n t s = sym (two_buffers ld n t s) ∙ further_first ld n t (wrong n (length s.re) (length s.im))
-
-pub misfit : {n a b : ℕ} → (a ≡ n → ⊥) ⊎ ((a ≡ n) × (b ≡ n → ⊥)) → wrong n a b ≡ true
-misfit (inl h) = rw (ne_eqb _ _ h)
-misfit (inr h) = rw (eq-eqb _ _ h.0, ne_eqb _ _ h.1)
-
-pub fit : {n a b : ℕ} → a ≡ n → b ≡ n → wrong n a b ≡ false
-fit h k = rw (eq-eqb _ _ h, eq-eqb _ _ k)

@@ -60,7 +60,7 @@ fn all_values<R: Reading>(s: Shape, t: &[f64], re: &mut [f64], im: &mut [f64])
 }
 
 // The values by a reading, or the first line that applies.
-#[tactic(auto, using(crate::proofs::Lines::values_first, crate::proofs::Lines::misfit, crate::proofs::Lines::fit, refusal::proofs::Told::told), unfolding(model::specs::Values::values_read))]
+#[tactic(auto, using(crate::proofs::Lines::values_first), unfolding(model::specs::Values::values_read))]
 pub fn values_read<R: Reading>(
     n: usize,
     ld: usize,
