@@ -15,8 +15,7 @@ use Rattle.replay_text.specs.declared.outcome.Outcome.{Outcome}
 use Rattle.replay_text.proofs.Found.{Fit, fit}
 use Rattle.replay_text.proofs.Names.{name_bound}
 use Rattle.replay.specs.Table.{shown}
-use Rattle.replay.specs.declared.State.{State}
-use Rattle.replay.specs.Replayed.{Leads, shown_by, taken, taken_all}
+use Rattle.replay.specs.Replayed.{State, Leads, shown_by, taken, taken_all}
 
 -- ---- a line
 

@@ -1,3 +1,4 @@
 pub mod Table
 pub mod Replayed
+pub mod View
 pub mod Report

@@ -1,13 +1,11 @@
 -- What a line does to the counts, and what bytes of input do: the whole of a run but for reading and writing. Definitions only. Assumes nothing.
-use Rattle.std.specs.Prelude.{ℕ, ◌+◌, ◌-◌, ◌≡◌, cond, List, [], ◌∷◌, eqb, ltb, length, take, drop, set, Option, Some, None, option_and_then}
+use Rattle.std.specs.Prelude.{ℕ, ◌+◌, ◌-◌, ◌≡◌, cond, List, [], ◌∷◌, ◌++◌, eqb, length, take, drop, Option, Some, None, option_and_then}
 use Rattle.replay_text.specs.Text.{Read, words_of}
 use Rattle.replay_text.specs.Names.{name_end, call_named}
 use Rattle.replay_text.specs.Counts as Counts
 use Rattle.replay_text.specs.declared.name.Call.{Call}
 use Rattle.replay_text.specs.declared.count.Tally.{Tally}
 use Rattle.replay_text.specs.declared.outcome.Outcome.{Outcome}
-use Rattle.replay.specs.declared.line.Desk.{Desk}
-use Rattle.replay.specs.declared.State.{State}
 use Rattle.replay.specs.Table.{shown}
 
 -- ---- a line
@@ -23,6 +21,11 @@ unfoldable pub told : ℕ → Outcome → Option ℕ
 told end Outcome.Same = None
 told end Outcome.Differs = Some (end + 17)
 told end Outcome.Malformed = None
+
+-- what the room for a line's words holds, and the counts
+pub record Desk : Type 0 where
+  pub words : List ℕ
+  pub tally : Tally
 
 -- a line is run: what is told of it, and the desk after it
 pub record Replayed : Type 0 where
@@ -49,22 +52,25 @@ replayed line d =
 unfoldable pub refused : Desk → Desk
 refused d = record { words = d.words; tally = Counts.refused d.tally }
 
--- the line ends and is run; one that fills the buffer is no line of a call
-unfoldable pub ended : State → State
+-- the bytes of the line that is not ended, and the desk
+pub record State : Type 0 where
+  pub line : List ℕ
+  pub desk : Desk
+
+-- the line is run; one that fills its room of 600,000 bytes is no line of a call
+unfoldable pub run : State → Desk
 unfolding replayed refused
-ended s =
-    record {
-      line = s.line;
-      len = 0;
-      desk = cond (ltb s.len (length s.line)) (replayed (take s.len s.line) s.desk).desk (refused s.desk);
-    }
+run s = cond (eqb (length s.line) 600000) (refused s.desk) (replayed s.line s.desk).desk
+
+-- the line ends: the next is empty
+unfoldable pub ended : State → State
+unfolding run
+ended s = record { line = []; desk = run s }
 
 -- one byte of input: a newline ends the line, any other is added while there is room
 unfoldable pub taken : ℕ → State → State
 unfolding ended
-taken b s =
-    cond (eqb b 10) (ended s)
-    (cond (ltb s.len (length s.line)) (record { line = set s.line s.len b; len = s.len + 1; desk = s.desk }) s)
+taken b s = cond (eqb b 10) (ended s) (cond (eqb (length s.line) 600000) s (record { line = s.line ++ b ∷ []; desk = s.desk }))
 
 -- byte after byte
 unfoldable pub taken_all : List ℕ → State → State
@@ -79,4 +85,4 @@ pub record Leads (s t : State) : Type 0 where
 
 -- at the input's end, a line that is not ended is no line of a call
 unfoldable pub closed : State → Tally
-closed s = cond (ltb 0 s.len) (Counts.refused s.desk.tally) s.desk.tally
+closed s = cond (eqb (length s.line) 0) s.desk.tally (Counts.refused s.desk.tally)

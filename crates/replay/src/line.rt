@@ -3,6 +3,7 @@ ghost use Rattle.std.specs.Prelude.{◌≡◌, ◌+◌, ◌^◌, ◌<◌, ◌≤
 ghost use Rattle.replay_text.specs.Names.{call_named};
 ghost use Rattle.replay_text.specs.Text.{words_of};
 ghost use Rattle.replay.specs.Replayed as Replayed;
+ghost use Rattle.replay.specs.View.{desk};
 
 use crate::table;
 use replay_text::count::Tally;
@@ -21,27 +22,26 @@ fn told(end: usize, outcome: Outcome) -> Option<usize>
     (outcome == Outcome::Differs).then_some(end + 17)
 }
 
-// How many words a line may have: those of two forms and two factors of 64 columns, 128 places apart.
-pub const WORDS: usize = 33000;
-
 // The room for a line's words, and the counts.
 #[derive(Drop)]
-pub struct Desk {
-    pub words: [u64; WORDS],
+pub struct Desk<'a> {
+    pub room: &'a mut [u64],
     pub tally: Tally,
 }
 
-impl Desk {
+impl Desk<'_> {
     // The call that a line names, and what the line shows of it. The first word is the line's index.
     fn shown(&mut self, line: &[u8], end: usize) -> Option<(Call, Outcome)>
         requires { end ≤ length line.now }
-        ensures value { result ≡ Replayed.shown_by (call_named (take end line.now)) (words_of line.now end self.old.words) }
-        ensures read { self.new ≡ record { words = (words_of line.now end self.old.words).out; tally = self.old.tally } }
+        ensures value { result ≡ Replayed.shown_by (call_named (take end line.now)) (words_of line.now end self.old.room.now) }
+        ensures read { desk self.new ≡ record { words = (words_of line.now end self.old.room.now).out; tally = self.old.tally } }
         ensures index { IfSome result (λ p. end + 17 ≤ length line.now) }
+        ensures same_room { self.new.room.ghost_name ≡ self.old.room.ghost_name }
     {
         let call = call_named(&line[..end]);
-        let n = words(line, end, &mut self.words)?;
-        let given = self.words.get(1..n)?;
+        let room = &mut *self.room;
+        let n = words(line, end, &mut *room)?;
+        let given = room.get(1..n)?;
         let call = call?;
         Some((call, table::run(call, given)))
     }
@@ -50,8 +50,9 @@ impl Desk {
     // Answers how many bytes of it are to be told.
     #[tactic(auto, unfolding(crate::specs::Replayed::replayed, crate::specs::Replayed::showing))]
     pub fn replay(&mut self, line: &[u8]) -> Option<usize>
-        ensures value { (record { told = result; desk = self.new }) ≡ Replayed.replayed line.now self.old }
+        ensures value { (record { told = result; desk = desk self.new }) ≡ Replayed.replayed line.now (desk self.old) }
         ensures inside { IfSome result (λ n. n ≤ length line.now) }
+        ensures same_room { self.new.room.ghost_name ≡ self.old.room.ghost_name }
     {
         let end = name_end(line);
         let Some((call, outcome)) = self.shown(line, end) else {

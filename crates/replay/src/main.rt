@@ -7,66 +7,69 @@ mod line;
 mod report;
 mod table;
 
-ghost use Rattle.std.specs.Prelude.{◌≡◌, replicate};
+ghost use Rattle.std.specs.Prelude.{◌≡◌};
 ghost use Rattle.replay.specs.Replayed as Replayed;
+ghost use Rattle.replay.specs.View.{state};
 
-use line::{Desk, WORDS};
+use arrayvec::ArrayVec;
+use line::Desk;
 use replay_text::count::Tally;
 use std::io;
 use std::io::Read;
 
-// How many bytes a line of WORDS words may have.
+// How many words a line may have: those of two forms and two factors of 64 columns, 128 places apart.
+const WORDS: usize = 33000;
+
+// How many bytes are enough for a line of WORDS words, of 17 bytes each, and its name.
 const LINE: usize = 600000;
 
-fn line_buffer() -> [u8; LINE]
-    ensures { result ≡ replicate LINE 0 }
-{
-    [0; LINE]
-}
-
-fn word_buffer() -> [u64; WORDS]
-    ensures { result ≡ replicate WORDS 0 }
-{
-    [0; WORDS]
-}
-
-// The bytes of the line that is not ended, in a buffer, and the desk.
+// The bytes of the line that is not ended, and the desk.
 #[derive(Drop)]
-struct State {
-    line: [u8; LINE],
-    len: usize,
-    desk: Desk,
+struct State<'a> {
+    line: ArrayVec<u8, LINE>,
+    desk: Desk<'a>,
 }
 
-impl State {
-    // Takes one byte of input: the line grows, or ends and is run. A line that fills the buffer is no
-    // line of a call. The error is of a line that cannot be told.
-    #[tactic(auto, unfolding(crate::specs::Replayed::taken, crate::specs::Replayed::ended, crate::specs::Replayed::refused))]
-    fn take_byte(&mut self, out: &impl Print, b: u8) -> io::Result<()>
-        ensures { self.new ≡ Replayed.taken b self.old }
+impl State<'_> {
+    // Runs the line that has ended. One that fills its room is no line of a call. The error is of a line
+    // that cannot be told.
+    #[tactic(auto, unfolding(crate::specs::Replayed::run, crate::specs::Replayed::refused))]
+    fn run_line(&mut self, out: &impl Print) -> io::Result<()>
+        ensures value { state self.new ≡ record { line = self.old.line.items; desk = Replayed.run (state self.old) } }
+        ensures same_room { self.new.desk.room.ghost_name ≡ self.old.desk.room.ghost_name }
     {
-        if b != b'\n' {
-            if self.len < self.line.len() {
-                self.line[self.len] = b;
-                self.len += 1;
-            }
-            return Ok(());
-        }
-        let len = self.len;
-        self.len = 0;
-        if len >= self.line.len() {
+        if self.line.is_full() {
             self.desk.tally.refuse();
             return Ok(());
         }
-        match self.desk.replay(&self.line[..len]) {
-            Some(told) => line::tell(out, &self.line[..told]),
+        let line = self.line.as_slice();
+        match self.desk.replay(line) {
+            Some(told) => line::tell(out, &line[..told]),
             None => Ok(()),
         }
     }
 
+    // Takes one byte of input: the line grows while there is room, or ends and is run.
+    #[tactic(auto, unfolding(crate::specs::Replayed::taken, crate::specs::Replayed::ended))]
+    fn take_byte(&mut self, out: &impl Print, b: u8) -> io::Result<()>
+        ensures value { state self.new ≡ Replayed.taken b (state self.old) }
+        ensures same_room { self.new.desk.room.ghost_name ≡ self.old.desk.room.ghost_name }
+    {
+        if b == b'\n' {
+            let told = self.run_line(out);
+            self.line.clear();
+            return told;
+        }
+        if !self.line.is_full() {
+            self.line.push(b);
+        }
+        Ok(())
+    }
+
     // Takes the bytes of a chunk, all of them also where a line cannot be told.
     fn take_bytes(&mut self, out: &impl Print, chunk: &[u8]) -> io::Result<()>
-        ensures { self.new ≡ Replayed.taken_all chunk.now self.old }
+        ensures value { state self.new ≡ Replayed.taken_all chunk.now (state self.old) }
+        ensures same_room { self.new.desk.room.ghost_name ≡ self.old.desk.room.ghost_name }
     {
         let mut written = Ok(());
         for &b in chunk {
@@ -80,7 +83,8 @@ impl State {
     // one at exit. A proved loop has to end, and nothing says that the input does: so the turns are
     // counted, to a number that no run reaches.
     fn take_input(&mut self, out: &impl Print, input: &mut impl Read) -> io::Result<()>
-        ensures { Replayed.Leads self.old self.new }
+        ensures value { Replayed.Leads (state self.old) (state self.new) }
+        ensures same_room { self.new.desk.room.ghost_name ≡ self.old.desk.room.ghost_name }
     {
         for _ in 0..u64::MAX {
             let mut chunk = [0u8; 65536];
@@ -95,10 +99,10 @@ impl State {
     // The counts at the input's end: a line that is not ended is no line of a call.
     #[tactic(auto, unfolding(crate::specs::Replayed::closed))]
     fn close(&self) -> Tally
-        ensures { result ≡ Replayed.closed self.now }
+        ensures { result ≡ Replayed.closed (state self.now) }
     {
         let mut tally = self.desk.tally;
-        if self.len > 0 {
+        if !self.line.is_empty() {
             tally.refuse();
         }
         tally
@@ -107,13 +111,13 @@ impl State {
 
 // A write that fails ends the program with its error.
 fn main(rt: HostRuntime) -> io::Result<()> {
+    let mut room = [0; WORDS];
     let desk = Desk {
-        words: word_buffer(),
+        room: &mut room,
         tally: Tally::new(),
     };
     let mut state = State {
-        line: line_buffer(),
-        len: 0,
+        line: ArrayVec::new(),
         desk,
     };
     state.take_input(&rt, &mut rt.stdin())?;

@@ -1,17 +1,18 @@
 // One function for each call: it takes a line's words without the index, makes the call with the
 // given ones and compares what it gives with the rest. oracle/README.md lists the words.
-ghost use Rattle.std.specs.Prelude.{◌≡◌, ◌≤◌, List, length, replicate};
+ghost use Rattle.std.specs.Prelude.{◌≡◌, ◌≤◌};
 ghost use Rattle.std.specs.Float.{binary64};
 ghost use Rattle.std.specs.Float.Ieee.{Float, of_bits};
-ghost use Rattle.linalg.specs.View.{rotation, reflected};
+ghost use Rattle.linalg.specs.View.{rotation};
+ghost use Rattle.replay_text.specs.Shown.{judged_read};
 ghost use Rattle.replay_calls.specs.Lines as Lines;
 
 use bits::float::{float_of, floats_of};
 use linalg::householder::Reflection;
 use linalg::jacobi::JacobiRotation;
-use refusal::Refusal;
+use refusal::number;
 use replay_text::float::{are_words, is_word};
-use replay_text::outcome::{Outcome, judge};
+use replay_text::outcome::{Outcome, judge, judge_read};
 
 // x; r. A call that takes a number and gives one.
 pub fn one<F: Fn(f64) -> f64>(w: &[u64], call: F) -> Outcome
@@ -96,60 +97,50 @@ pub fn apply(w: &[u64]) -> Outcome
 #[tactic(auto, unfolding(crate::specs::Lines::places))]
 fn places(n: usize) -> usize
     requires { n ≤ 66 }
-    ensures { (result ≡ Lines.places n) × (5 ≤ result) × (n ≤ result) × (result ≤ 66) }
+    ensures { (result ≡ Lines.places n) × (n ≤ result) × (result ≤ 66) }
 {
     n.max(5)
 }
 
-// Room for a tail of 66 numbers, two more than a call takes.
-fn room() -> [f64; 66]
-    ensures { (result ≡ replicate 66 (of_bits binary64 0)) × (66 ≡ length result) }
+// A reflection's line, read part by part. What is turned away has zeros for its four results.
+fn on_tail(w: &[u64]) -> Option<bool>
+    ensures { judged_read result ≡ Lines.make_householder_in_place w.now }
 {
-    [0.0; 66]
-}
-
-// The number and the four results of a reflection: zeros where it is turned away.
-fn answered(made: Result<Reflection, Refusal>) -> (usize, Reflection)
-    ensures { (tail : List Float) → record { answer = result.0; head = result.1.head; tau = result.1.tau; head_with_beta_inv = result.1.head_with_beta_inv; norm = result.1.norm; tail = tail } ≡ reflected made tail }
-{
-    match made {
-        Ok(r) => (0, r),
-        Err(refusal) => {
-            let nothing = Reflection {
-                head: 0.0,
-                tau: 0.0,
-                head_with_beta_inv: 0.0,
-                norm: 0.0,
-            };
-            (usize::from(refusal), nothing)
-        }
+    let (&[n, head], given) = w.split_first_chunk::<2>()?;
+    if n > 66 {
+        return None;
     }
+    let places = places(n as usize);
+    let (given, told) = given.split_at_checked(places)?;
+    let (&[answer, new_head, tau, inv, norm], expected) = told.split_first_chunk::<5>()?;
+    if expected.len() != places {
+        return None;
+    }
+    let mut room = [0.0; 66];
+    let tail = &mut room[..places];
+    floats_of(given, &mut *tail);
+    let made = linalg::householder::make_householder_in_place(
+        float_of(head),
+        &mut tail[..n as usize],
+    );
+    let answer = number(&made) as u64 == answer;
+    let r = made.unwrap_or(Reflection {
+        head: 0.0,
+        tau: 0.0,
+        head_with_beta_inv: 0.0,
+        norm: 0.0,
+    });
+    let head = is_word(r.head, new_head);
+    let tau = is_word(r.tau, tau);
+    let inv = is_word(r.head_with_beta_inv, inv);
+    let norm = is_word(r.norm, norm);
+    let tail = are_words(&*tail, expected);
+    Some(answer & head & tau & inv & norm & tail)
 }
 
 // The length, the head, the places of the tail; the number, the four results, the places.
 pub fn make_householder_in_place(w: &[u64]) -> Outcome
     ensures { result ≡ Lines.make_householder_in_place w.now }
 {
-    if w.len() < 17 {
-        return Outcome::Malformed;
-    }
-    let n = w[0] as usize;
-    if n > 66 {
-        return Outcome::Malformed;
-    }
-    let p = places(n);
-    if w.len() != 7 + 2 * p {
-        return Outcome::Malformed;
-    }
-    let mut tail = room();
-    floats_of(&w[2..2 + p], &mut tail[..p]);
-    let made = linalg::householder::make_householder_in_place(float_of(w[1]), &mut tail[..n]);
-    let (number, r) = answered(made);
-    let answer = number as u64 == w[2 + p];
-    let head = is_word(r.head, w[3 + p]);
-    let tau = is_word(r.tau, w[4 + p]);
-    let inv = is_word(r.head_with_beta_inv, w[5 + p]);
-    let norm = is_word(r.norm, w[6 + p]);
-    let rest = are_words(&tail[..p], &w[7 + p..7 + 2 * p]);
-    judge(answer & head & tau & inv & norm & rest)
+    judge_read(on_tail(w))
 }

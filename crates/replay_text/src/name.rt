@@ -5,8 +5,8 @@ ghost use Rattle.replay_text.specs.Names as Names;
 // How many calls there are.
 pub const CALLS: usize = 30;
 
-// The calls, in the order of the report. Lines of those with Ld have a stride. It is no field of a case: `as` would
-// not number the cases then, and places of counts, names and the report's order would be a list more for each.
+// The calls, in the order of the report. Lines of those with Ld have a stride, which is no field of a case: `as`
+// numbers only cases without fields, and a call's count (`Tally`) would need a list of places.
 #[derive(Clone, Copy, Debug, PartialEq, Eq)]
 pub enum Call {
     Abs,
@@ -75,8 +75,8 @@ impl Call {
         Call::ReorderSchurStoppingLd,
     ];
 
-    // Its name, with spaces after it: what a row of the report begins with. `{:<28}` would add them in printing, and
-    // no contract says what that prints.
+    // Its name, with the spaces after it that a row of the report has. Printed by `{:<28}` they would be proved of
+    // no row, where `title` of `replay` promises them.
     pub fn name(self) -> &'static [u8; 28]
         ensures { result.now ≡ Names.name_of self }
     {
@@ -134,8 +134,8 @@ fn padded(name: &[u8]) -> Option<[u8; 28]>
     Some(out)
 }
 
-// The call of the name that a line begins with. As a `TryFrom` it would have a type of error, of which a caller
-// wants nothing but that it is there.
+// The call of the name that a line begins with. A `TryFrom<&[u8]>` would need a type of error, which the one caller
+// would turn back into None.
 pub fn call_named(name: &[u8]) -> Option<Call>
     ensures { result ≡ Names.call_named name.now }
 {

@@ -1,6 +1,6 @@
 -- What a text says that is laid out, and the sheet by cases. Assumes nothing.
 use mathlib.Core.Path.{◌≡◌, refl, sym, ap, subst, ◌∙◌}
-use mathlib.Core.Bool.{Bool, true, false, ◌&&◌, cond, true≢false}
+use mathlib.Core.Bool.{Bool, true, false, ◌&&◌, cond}
 use mathlib.Core.List.{List, [], ◌∷◌, ◌++◌}
 use Prim.Native.Nat.{ℕ, zero, suc, ◌+◌, ◌-◌, ◌*◌, ◌^◌, ◌≤◌, ◌<◌}
 use native.Mathlib.Nat.{zero-add, sub-zero, zero-sub, suc-sub-suc, lt_of_lt_of_le, pow-le-pow_right}
@@ -12,6 +12,7 @@ use borrow.Author.Tests.{ltb-false, le-ltb, lt-ltb, leb-true, le-leb, lt-leb, eq
 use borrow.Author.Rules.{rules}
 use Rattle.std.specs.Bool.{Decides}
 use Rattle.std.specs.Cmp.Lexicographic.{pointwise}
+use Rattle.std.proofs.lemmas.Bool.{and_parts}
 use Rattle.std.proofs.lemmas.Slice.Eq.{compares_Decides}
 use Rattle.model.specs.Text.{text_bytes, word_room, sheet_room, Request, text_of, InBounds, number_at, digit_of, digits_from, more_at, words_at, factor_place, request_of, same, laid_out, numbers, printed_move, printed, answer_line, sheet_of, Sheet, sheet_call}
 use Rattle.model.specs.Move.{move_call}
@@ -84,10 +85,6 @@ same_decides : (a b : List ℕ) → Decides (same a b) (a ≡ b)
 unfolding same
 same_decides = compares_Decides same (search rules)
 
-both : (a b : Bool) → (a && b) ≡ true → (a ≡ true) × (b ≡ true)
-both true b h = (refl, h)
-both false b h = absurd (true≢false (sym h))
-
 -- ---- what is laid out
 
 in_bounds : (s : List ℕ) → length s ≤ text_bytes → s ≡ text_of (request_of s) → InBounds (request_of s)
@@ -104,7 +101,7 @@ in_bounds s l e = record {
 pub laid_out_only : (s : List ℕ) → laid_out s ≡ true → InBounds (request_of s) × (s ≡ text_of (request_of s))
 unfolding laid_out
 laid_out_only s h =
-    let t = both (leb (length s) text_bytes) (same s (text_of (request_of s))) h in
+    let t = and_parts (leb (length s) text_bytes) (same s (text_of (request_of s))) h in
     let e : s ≡ text_of (request_of s) = (same_decides s (text_of (request_of s))).0 t.1 in
     (in_bounds s (leb-true (length s) text_bytes t.0) e, e)
 
