@@ -1,5 +1,5 @@
 -- `digits::whole::Radicand::near_half` meets its contract, by what the step of Newton's gives. Assumes nothing.
-use Rattle.std.proofs.Common.{ℕ, Some, refl, ◌≡◌, ◌-◌, ◌*◌, ◌/◌, ◌^◌, ◌≤◌, ◌<◌, arith}
+use Rattle.std.proofs.Common.{ℕ, Some, refl, ◌-◌, ◌*◌, ◌/◌, ◌^◌, ◌≤◌, ◌<◌, arith}
 use native.Mathlib.Nat.{mul-le-mul}
 use Rattle.digits.specs.Digits.{Left}
 use Rattle.digits.proofs.Left.{rest}

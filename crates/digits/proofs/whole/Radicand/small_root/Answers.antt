@@ -1,7 +1,7 @@
 -- `digits::whole::Radicand::small_root` meets its contract. The invariant: r is no lower than the root's whole part. Newton's step keeps it, from any r above 0, since four times a product is at most the
 -- square of the sum; and it goes down from an r whose square is above d. Assumes nothing.
 use mathlib.Core.Path.{◌≡◌}
-use Prim.Native.Nat.{ℕ, zero, suc, ◌+◌, ◌-◌, ◌*◌, ◌/◌, ◌≤◌, ◌<◌}
+use Prim.Native.Nat.{ℕ, ◌+◌, ◌-◌, ◌*◌, ◌/◌, ◌≤◌, ◌<◌}
 use native.Mathlib.Nat.{mul-le-mul, lt-div-mul-add, div-lt_iff_lt-mul}
 use native.Mathlib.Decide.{dec_le}
 use native.Mathlib.Omega.{arith}

@@ -1,7 +1,7 @@
 -- `digits::whole::Radicand::whole_root` meets its contract. With s the root of d, and (d - s * s) * 2 ^ 27 parted into q times 2 * s and u, d * 2 ^ 54 is the square of r = s * 2 ^ 27 + q, less q * q, and
 -- u * 2 ^ 27 more. So r is the root's whole part, or one too high. Assumes nothing.
 use mathlib.Core.Path.{◌≡◌}
-use Prim.Native.Nat.{ℕ, zero, suc, ◌+◌, ◌-◌, ◌*◌, ◌/◌, ◌%◌, ◌^◌, ◌≤◌, ◌<◌}
+use Prim.Native.Nat.{ℕ, suc, ◌+◌, ◌-◌, ◌*◌, ◌/◌, ◌%◌, ◌^◌, ◌≤◌, ◌<◌}
 use native.Mathlib.Nat.{mul-le-mul, div-le_of_le-mul, div-add-mod', mod-lt}
 use native.Mathlib.Omega.{arith}
 use Rattle.model.specs.Root.{root}

@@ -1,8 +1,5 @@
 -- `modulus::limbs::Long::stepped` meets its contract: the two limbs are compared with the square's. Assumes nothing.
-use Prim.Native.Nat.{◌+◌, ◌/◌, ◌^◌}
-use native.Mathlib.Nat.{div-le_self}
 use native.Mathlib.Omega.{arith}
-use Rattle.digits.proofs.Short.{short}
 use Rattle.std.proofs.Common.{Less, Equal, Greater}
 use Rattle.modulus.proofs.Ordered.{by_limbs}
 use Rattle.modulus.proofs.Step.{fits, stays, steps, ties}
