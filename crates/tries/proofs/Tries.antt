@@ -1,6 +1,6 @@
 -- The steps of a tried exchange, one after another, are the exchange. Assumes nothing.
 use mathlib.Core.Path.{◌≡◌, refl, ◌∙◌, subst}
-use Prim.Native.Nat.{ℕ, ◌+◌, ◌≤◌}
+use Prim.Native.Nat.{ℕ, ◌+◌}
 use native.Mathlib.Omega.{arith}
 use mathlib.Core.Bool.{Bool, true, false, cond}
 use mathlib.Core.List.{List}
@@ -9,28 +9,9 @@ use lib.Ieee.{Float, binary64}
 use Rattle.model.specs.Columns.{on_factor}
 use Rattle.model.specs.Swaps.{Change, declining, declines_in, swaps_of, declined_of, swap11, swap22, swap22_by, swap_of}
 use Rattle.model.specs.Stopping.{fails22, test_fails, standardise_also, try_exchange}
-use Rattle.swaps.specs.declared.neighbours.Neighbours.{Neighbours}
 use Rattle.swaps.specs.Done.{Done}
 use Rattle.swaps.proofs.Steps.{done_then}
 use Rattle.tries.proofs.Counts.{try_counts}
-
--- ---- the sizes: 1, or else 2
-
-module _ (b : Neighbours) where
-  pub one1 : b.n1 + b.n2 ≡ 2 → b.n1 ≡ 1
-  one1 e = omega (arith, b.one1, b.one2)
-
-  pub one2 : b.n1 + b.n2 ≡ 2 → b.n2 ≡ 1
-  one2 e = omega (arith, b.one1, b.one2)
-
-  pub two1 : (b.n1 ≡ 1 → ⊥) → b.n1 ≡ 2
-  two1 h = omega (arith, b.one1, b.two1)
-
-  pub two2 : (b.n2 ≡ 1 → ⊥) → b.n2 ≡ 2
-  two2 h = omega (arith, b.one2, b.two2)
-
-  pub below_one : 3 ≤ b.n1 + b.n2 → b.n1 ≡ 1 → b.n2 ≡ 2
-  below_one h e = omega (arith, b.two2)
 
 -- ---- the swap, or what a test that fails leaves
 module _ (ld n j n1 n2 : ℕ) (t : List Float) where

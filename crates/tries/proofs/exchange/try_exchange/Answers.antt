@@ -4,7 +4,8 @@ use mathlib.Core.Path.{refl, sym, ◌∙◌}
 use native.Mathlib.Omega.{arith}
 use Rattle.model.specs.Stopping.{test_fails}
 use Rattle.form.proofs.Runs.{still}
-use Rattle.tries.proofs.Tries.{one1, one2, failed, passed, whole, single}
+use Rattle.swaps.proofs.Sizes.{one1, one2}
+use Rattle.tries.proofs.Tries.{failed, passed, whole, single}
 use Rattle.tries.proofs.exchange.try_exchange.Goals as goal
 
 pub returns-then-b-eq2 : goal.returns-then-b-eq2

@@ -1,7 +1,8 @@
 -- `tries::exchange::try_swap` meets its contract. Assumes nothing.
 use Rattle.model.specs.Swaps.{swap_of}
 use Rattle.model.specs.Stopping.{test_fails}
-use Rattle.tries.proofs.Tries.{two1, two2, below_one, pair}
+use Rattle.swaps.proofs.Sizes.{two1, two2, below_one}
+use Rattle.tries.proofs.Tries.{pair}
 use Rattle.tries.proofs.exchange.try_swap.Goals as goal
 
 pub returns-then-b-eq1 : goal.returns-then-b-eq1
