@@ -9,18 +9,14 @@ use lib.Seq.{drop-cons}
 use borrow.Author.Tests.{ne_eqb}
 use Rattle.std.proofs.Common.{Option, Some, None}
 use Rattle.replay_text.specs.Text.{Read, words_of}
-use Rattle.replay_text.specs.Names.{name_end, call_named}
+use Rattle.replay_text.specs.Names.{call_named}
 use Rattle.replay_text.specs.declared.name.Call.{Call}
 use Rattle.replay_text.specs.declared.outcome.Outcome.{Outcome}
 use Rattle.replay_text.proofs.Found.{Fit, fit}
-use Rattle.replay_text.proofs.Names.{name_bound}
 use Rattle.replay.specs.Table.{shown}
 use Rattle.replay.specs.Replayed.{State, Leads, shown_by, taken, taken_all}
 
 -- ---- a line
-
-pub end-inside : (line : List ℕ) (end : ℕ) → end ≡ name_end line → end ≤ length line
-end-inside line end e = omega (arith, name_bound line)
 
 -- the words that were found have room, and name and index lie inside a line that has words
 module _

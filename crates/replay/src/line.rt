@@ -22,7 +22,7 @@ fn told(end: usize, outcome: Outcome) -> Option<usize>
     (outcome == Outcome::Differs).then_some(end + 17)
 }
 
-// The room for a line's words, and the counts.
+// The room for a line's words, lent and of any length, and the counts. The methods keep the room (`same_room`).
 #[derive(Drop)]
 pub struct Desk<'a> {
     pub room: &'a mut [u64],
@@ -48,7 +48,7 @@ impl Desk<'_> {
 
     // Runs a line, and adds it to the lines run and, if it came out otherwise, to those that differ.
     // Answers how many bytes of it are to be told.
-    #[tactic(auto, unfolding(crate::specs::Replayed::replayed, crate::specs::Replayed::showing))]
+    #[tactic(auto, using(replay_text::proofs::Names::name_bound), unfolding(crate::specs::Replayed::replayed, crate::specs::Replayed::showing))]
     pub fn replay(&mut self, line: &[u8]) -> Option<usize>
         ensures value { (record { told = result; desk = desk self.new }) ≡ Replayed.replayed line.now (desk self.old) }
         ensures inside { IfSome result (λ n. n ≤ length line.now) }
