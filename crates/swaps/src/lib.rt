@@ -1,4 +1,5 @@
-// Inside (`walks`, `schur`, `tries`): the four swaps of neighbouring blocks, and a 2-block standardised in place.
+// Inside (`walks`, `schur`, `stopping`, `tries`): the four swaps of neighbouring blocks, and a 2-block standardised in
+// place.
 #![tactic(auto)]
 
 pub mod kernels;
