@@ -34,6 +34,7 @@ fn any_of_first<const N: usize>(xs: &[f64]) -> bool
 // Whether one of the first `count` columns has a number that is not zero in the ROWS rows from row p on. A loop: a
 // closure in a function with a const parameter would have to say anew, as a `requires` of its own, what this one
 // asks for.
+#[tactic(auto, unfolding(model::specs::Form::some))]
 fn any_in_columns<const ROWS: usize>(s: Shape, t: &[f64], p: usize, count: usize) -> bool
     requires { Holds s t.now × (p + ROWS ≤ s.n) × (count ≤ s.n) }
     ensures { result ≡ some count (λ (j : ℕ). some ROWS (λ (k : ℕ). ne (entry s.ld t.now (p + k) j) (of_bits binary64 0))) }
@@ -49,6 +50,7 @@ fn any_in_columns<const ROWS: usize>(s: Shape, t: &[f64], p: usize, count: usize
 // The same in the corner of `rows` rows from row `top` on: column top - 1 has one number less than there are rows,
 // and each further one begins a row lower. A loop to the end: by `any`, which has a branch at each of these short
 // columns, the check took 1.2 to 1.6 times as long at 9 and 12 rows.
+#[tactic(auto, unfolding(model::specs::Form::some))]
 fn any_in_corner(s: Shape, t: &[f64], top: usize, rows: usize) -> bool
     requires { Holds s t.now × (1 ≤ top) × (1 ≤ rows) × (top + rows ≤ s.n) }
     ensures { result ≡ some (rows - 1) (λ (j : ℕ). some (rows - 1 - j) (λ (k : ℕ). ne (entry s.ld t.now (top + 1 + j + k) (top - 1 + j)) (of_bits binary64 0))) }
@@ -90,6 +92,7 @@ fn none_deep<const ROWS: usize>(s: Shape, t: &[f64], rows: usize) -> Result<usiz
 }
 
 // Line 5, from the last rows up: eight rows at a time, then four, then one.
+#[tactic(auto, using(crate::proofs::Below::clean_line, crate::proofs::Below::above))]
 fn all_none_deep(s: Shape, t: &[f64]) -> Result<(), Refusal>
     requires { Holds s t.now }
     ensures { MatchResult result

@@ -1,5 +1,5 @@
 -- `form::deep::any_in_columns` meets its contract. Assumes nothing.
-use mathlib.Core.Path.{◌≡◌, refl, sym, ◌∙◌}
+use mathlib.Core.Path.{◌≡◌, sym, ◌∙◌}
 use native.Mathlib.Numerals.{add-one}
 use Prim.Native.Nat.{ℕ, ◌+◌, ◌-◌, ◌*◌, ◌≤◌}
 use native.Mathlib.Omega.{arith}
@@ -15,10 +15,6 @@ use Rattle.form.proofs.deep.any_in_columns.Goals as goal
 told : (t : List Float) (ld p j q n : ℕ) {r : Bool} → q + n ≤ length t → q ≡ p + ld * j
     → r ≡ some n (λ (k : ℕ). ne (at (take (length t - q) (drop q t)) k) (of_bits binary64 0)) → r ≡ some n (λ (k : ℕ). ne (at t (p + k + ld * j)) (of_bits binary64 0))
 told t ld p j q n h e g = g ∙ from_place t q n (λ (k : ℕ). p + k + ld * j) (λ (x : Float). ne x (of_bits binary64 0)) h (λ i. omega (arith, e))
-
-pub loop-j-init : goal.loop-j-init
-unfolding some
-loop-j-init g c = refl
 
 pub returns-then-any_of_first : goal.returns-then-any_of_first
 returns-then-any_of_first g c =

@@ -1,5 +1,4 @@
 -- `form::deep::any_in_corner` meets its contract. Assumes nothing.
-use mathlib.Core.Path.{refl}
 use Prim.Native.Nat.{ℕ, ◌+◌, ◌-◌, ◌*◌}
 use native.Mathlib.Numerals.{add-one}
 use native.Mathlib.Omega.{arith}
@@ -7,10 +6,6 @@ use lib.Ieee.{Float, binary64, ne, of_bits}
 use Rattle.model.specs.Form.{some}
 use Rattle.form.proofs.Some.{in_part}
 use Rattle.form.proofs.deep.any_in_corner.Goals as goal
-
-pub loop-j-init : goal.loop-j-init
-unfolding some
-loop-j-init c = refl
 
 pub loop-j-preserved : goal.loop-j-preserved
 unfolding some
