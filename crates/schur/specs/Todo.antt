@@ -6,6 +6,6 @@ use Rattle.laws_exchange.specs.Loop as Loop
 abbrev pub seen : Neighbours → Loop.Small
 seen b = record { row = b.row; n1 = b.n1; n2 = b.n2 }
 
--- the last pushed next
+-- the last pushed comes first
 unfoldable pub waiting : List Neighbours → List Loop.Small
 waiting todo = map seen (reverse todo)

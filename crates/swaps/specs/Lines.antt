@@ -18,7 +18,7 @@ put_at (suc m) p xs t = set (put_at m p xs t) (p m) (at xs m)
 abbrev pub change_at : ℕ → (List Float → List Float) → (ℕ → ℕ) → List Float → List Float
 change_at n f p t = put_at n p (f (each n (λ m. at t (p m)))) t
 
--- the same along a run of k places each, `step` apart, the first of each `from` further on
+-- the same k times along the lines: first `from` places further on, and each next time `step` more
 unfoldable pub change_run : ℕ → (List Float → List Float) → ℕ → ℕ → ℕ → (ℕ → ℕ) → List Float → List Float
 change_run n f step zero from p t = t
 change_run n f step (suc k) from p t = change_run n f step k (from + step) p (change_at n f (λ m. p m + from) t)

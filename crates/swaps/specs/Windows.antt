@@ -6,7 +6,7 @@ use Rattle.model.specs.Arith.{zero_of, ten_of, eps_of, min_positive_of, abs, fma
 use Rattle.model.specs.Form.{at, entry}
 use Rattle.swaps.specs.Lines.{each}
 
--- rows and columns of these numbers, in this order
+-- the numbers in these rows and the same columns, in this order
 abbrev pub window_of : ℕ → ℕ → List Float → List ℕ → List (List Float)
 window_of n ld t rows = each n (λ (c : ℕ). each n (λ (r : ℕ). entry ld t (get_or rows r 0) (get_or rows c 0)))
 

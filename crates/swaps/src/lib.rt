@@ -1,5 +1,4 @@
-// Inside (`walks`, `schur`, `stopping`, `tries`): the four swaps of neighbouring blocks, and a 2-block standardised in
-// place.
+// Inside (`walks`, `schur`, `tries`, `stopping`): the four swaps of neighbouring blocks, and standardising in place.
 #![tactic(auto)]
 
 pub mod kernels;

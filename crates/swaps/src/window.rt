@@ -17,7 +17,7 @@ pub struct Window<const N: usize> {
 // Windows are filled by index: `map` asks that its arrays fit in memory, which no N by itself ensures, and of
 // `array::from_fn` each closure, as it calls or indexes, would need a contract that repeats the loop's one line.
 impl<const N: usize> Window<N> {
-    // The rows and columns of these numbers, in this order.
+    // The numbers in these rows and the same columns, in this order.
     pub fn of(s: Shape, t: &[f64], rows: [usize; N]) -> Self
         requires { Holds s t.now × Inside N rows s.n }
         ensures { result.columns ≡ window_of N s.ld t.now rows.entry }

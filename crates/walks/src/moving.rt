@@ -22,7 +22,7 @@ pub trait Kind {
     // How many swaps an exchange runs at most.
     ghost most: { ℕ };
 
-    // The exchange of neighbouring blocks: Err where it has declined and the move stops at that.
+    // The exchange of neighbouring blocks: Err where it has declined and the move stops for that.
     fn exchange(s: Shape, t: &mut [f64], u: &mut [f64], b: Neighbours) -> Result<Counts, Counts>
         requires { Holds s t.old × Beside s u.old × Fits s b }
         ensures { Made (kind s.ld s.n) most s b t.old u.old t.new u.new result };

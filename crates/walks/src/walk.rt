@@ -10,7 +10,7 @@ use crate::moving::{Block, Kind, Moving, step_down, step_up};
 use form::shape::{Shape, goal_down};
 use std::cmp::Ordering;
 
-// Down until the goal is reached or a step stops.
+// Down until the goal is reached or a step stops: a `while`, since a step is as long as the block that it passes.
 fn walk_down<K: Kind>(
     s: Shape,
     t: &mut [f64],
