@@ -19,9 +19,6 @@ unfolding rescaled
 settled zero scale s e b = refl
 settled (suc left) scale s e b = rw (← e, ← b)
 
-pub loop-left-init : goal.loop-left-init
-loop-left-init c = refl
-
 pub loop-left-preserved : goal.loop-left-preserved
 loop-left-preserved c =
     once _ _ _ _ (search rules) c.scale-scale.ensures c.if-not-bound_met.ensures c.rescale-s.ensures ∙ c.loop-left.invariant
