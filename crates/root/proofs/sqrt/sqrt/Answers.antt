@@ -6,7 +6,7 @@ use mathlib.Core.Path.{◌≡◌}
 use lib.Ieee.{binary64, div, of_bits}
 use lib.Ieee.Bits.{of_bits-to_bits}
 use Rattle.model.specs.Root.{sqrt}
-use Rattle.laws.proofs.RootCases.{sqrt-below, sqrt_itself, sqrt-infinite, above_no_nan, above_bits}
+use Rattle.laws.proofs.RootCases.{sqrt-below, sqrt_itself, sqrt-infinite, above_bits}
 use Rattle.root.proofs.sqrt.sqrt.Goals as goal
 
 passed : {b : Bool} → b ≡ true → T b
@@ -14,10 +14,6 @@ passed e = subst T (sym e) tt
 
 failed : {b : Bool} → b ≡ false → T b → ⊥
 failed e t = subst T e t
-
-pub float_to_bits-bits : goal.float_to_bits-bits
-unfolding of_bits
-float_to_bits-bits c = above_no_nan c.args.x (passed c.if-x.true)
 
 pub invariant_of-root_bits : goal.invariant_of-root_bits
 unfolding of_bits
