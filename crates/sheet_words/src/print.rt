@@ -54,6 +54,7 @@ impl Page<'_> {
     }
 
     // Words, with a space before each.
+    #[tactic(auto, unfolding(model::specs::Text::spaced))]
     fn spaced(&mut self, words: &[u64])
         requires { self.old.at + 17 * length words.now ≤ length self.old.out.now }
         ensures { (self.new.at ≡ self.old.at + 17 * length words.now) × Puts self.old (Text.spaced words.now) self.new }

@@ -2,7 +2,7 @@
 use Rattle.std.proofs.Common.{◌≡◌, ℕ, List, [], ◌∷◌, ◌++◌, ◌+◌, ◌<◌, length, get_or, take, sym, ap, ◌∙◌, arith, add-one, append-nil, append_assoc}
 use lib.Seq.{take-suc}
 use Rattle.model.specs.Text.{word, spaced}
-use Rattle.sheet_words.proofs.Page.{as_text, puts_none, puts_then}
+use Rattle.sheet_words.proofs.Page.{as_text, puts_then}
 use Rattle.sheet_words.proofs.print.Page.spaced.Goals as goal
 
 -- one word more
@@ -13,10 +13,6 @@ spaced_snoc (v ∷ ws) w = rw (← spaced_snoc ws w) (simp append_assoc)
 
 more : (w : List ℕ) (i : ℕ) → i < length w → spaced (take i w) ++ (32 ∷ []) ++ word (get_or w i 0) ≡ spaced (take (i + 1) w)
 more w i h = spaced_snoc (take i w) (get_or w i 0) ∙ ap spaced (rw (add-one i) (sym (take-suc w i 0 h)))
-
-pub loop-word-init : goal.loop-word-init
-unfolding spaced
-loop-word-init c = (omega arith, puts_none (omega arith))
 
 pub loop-word-preserved : goal.loop-word-preserved
 loop-word-preserved c =
