@@ -102,7 +102,8 @@ fn places(n: usize) -> usize
     n.max(5)
 }
 
-// A reflection's line, read part by part. What is turned away has zeros for its four results.
+// A reflection's line, read part by part. There is room for a tail of 66 numbers, two more than a call takes. What
+// is turned away has zeros for its four results.
 fn on_tail(w: &[u64]) -> Option<bool>
     ensures { judged_read result ≡ Lines.make_householder_in_place w.now }
 {

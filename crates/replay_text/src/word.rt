@@ -1,5 +1,5 @@
-// Words as text: their digits, and all words of a line. What is no word ends the reading, where `read` of `sheet_words`
-// reads on, any byte as a digit, and leaves it to the comparing of texts to refuse.
+// Words as text: their digits, and all words of a line. What is no word ends the reading; `sheet_words` reads on, any
+// byte as a digit, and leaves it to the comparing of texts to refuse.
 ghost use Rattle.std.specs.Prelude.{◌≡◌, length};
 ghost use Rattle.replay_text.specs.Text.{word_at, words_of};
 
