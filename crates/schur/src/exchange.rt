@@ -43,6 +43,7 @@ fn swap_of(s: Shape, t: &mut [f64], u: &mut [f64], b: Neighbours) -> Counts
 // The rows from row j on standardised if there are two. In line, so that a single row, for which there is
 // nothing to do, costs no call.
 #[inline(always)]
+#[tactic(auto, unfolding(model::specs::Exchange::standardise_if, model::specs::Columns::on_factor))]
 fn standardise_if(s: Shape, t: &mut [f64], u: &mut [f64], size: usize, j: usize)
     requires { Holds s t.old × Beside s u.old × (j + size ≤ s.n) }
     ensures { Done s.ld s.n u.old t.new u.new (Exchange.standardise_if binary64 s.ld s.n size j t.old) }

@@ -40,6 +40,7 @@ pub struct Moved {
 }
 
 // The move of the block in row `from` to row `to`.
+#[tactic(auto, unfolding(model::specs::Move::move_call))]
 pub fn reorder_schur(
     n: usize,
     ld: usize,

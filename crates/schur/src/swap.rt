@@ -11,6 +11,7 @@ use swaps::neighbours::Neighbours;
 use walks::counts::Counts;
 
 // The exchange of the n1 rows from row j0 on with the n2 below them.
+#[tactic(auto, unfolding(model::specs::Exchange::exchange_call))]
 pub fn schur_swap(
     n: usize,
     ld: usize,

@@ -42,6 +42,7 @@ pub struct Stopped {
 }
 
 // The move of the block in row `from` to row `to`, as far as the first exchange whose test fails.
+#[tactic(auto, unfolding(model::specs::Stopping::stopping_call))]
 pub fn reorder_schur_stopping(
     n: usize,
     ld: usize,

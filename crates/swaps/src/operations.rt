@@ -27,6 +27,7 @@ fn change<const N: usize, K: Kernel<N>>(t: &mut [f64], k: K, places: [usize; N])
 // The operation on rows from column j on. Rows and columns have a loop each: a common one would be told
 // where each line begins and how far apart its numbers are, which both would fill in first, and would hide from
 // the compiler that a column's numbers lie side by side, of which it changes several at once.
+#[tactic(auto, unfolding(crate::specs::Lines::change_run))]
 fn on_rows<const N: usize, K: Kernel<N>>(s: Shape, t: &mut [f64], k: K, rows: [usize; N], j: usize)
     requires { Holds s t.old × Inside N rows s.n × (j ≤ s.n) }
     ensures { t.new ≡ Columns.on_rows binary64 s.ld j (s.n - j) (K.operation k rows.entry) t.old }
@@ -41,6 +42,7 @@ fn on_rows<const N: usize, K: Kernel<N>>(s: Shape, t: &mut [f64], k: K, rows: [u
 }
 
 // The operation on columns in the first `count` rows.
+#[tactic(auto, unfolding(crate::specs::Lines::change_run))]
 fn on_columns<const N: usize, K: Kernel<N>>(
     s: Shape,
     t: &mut [f64],
@@ -79,6 +81,7 @@ pub fn on_form<const N: usize, K: Kernel<N>>(
 
 // The operation on the factor's columns. At the stride n the compiler sees that one column ends where the
 // next begins, and does not look whether they overlap.
+#[tactic(auto, unfolding(model::specs::Exchange::factor_rows, crate::specs::Lines::change_run))]
 pub fn on_factor<const N: usize, K: Kernel<N>>(s: Shape, u: &mut [f64], k: K, lines: [usize; N])
     requires { Beside s u.old × Inside N lines s.n }
     ensures { u.new ≡ Columns.on_columns binary64 s.ld (factor_rows s.n u.old) (K.operation k lines.entry) u.old }

@@ -17,6 +17,7 @@ use swaps::swap_22::schur_swap_22;
 
 // The swap of neighbouring blocks of three or four rows in all: true where the test fails, which touches
 // neither form nor factor, so a bool says all.
+#[tactic(auto, unfolding(model::specs::Stopping::test_fails, model::specs::Swaps::swap_of))]
 fn try_swap(s: Shape, t: &mut [f64], u: &mut [f64], b: Neighbours) -> bool
     requires { Holds s t.old × Beside s u.old × Fits s b × (3 ≤ b.n1 + b.n2) }
     ensures { Done s.ld s.n u.old t.new u.new (cond (Stopping.test_fails binary64 s.ld t.old b.row b.n1 b.n2) (Swaps.declining b.row b.n1 b.n2 t.old) (Swaps.swap_of binary64 s.ld s.n b.row b.n1 b.n2 t.old)) × (result ≡ Stopping.test_fails binary64 s.ld t.old b.row b.n1 b.n2) }
@@ -34,6 +35,7 @@ fn try_swap(s: Shape, t: &mut [f64], u: &mut [f64], b: Neighbours) -> bool
 // says all. Else one swap, then the new upper block standardised, then the lower. Two single rows have no test,
 // and no block. `exchange_whole` of crate `schur` makes another swap, goes on after a decline, and standardises
 // without dlanv2's exchange: one function for both would be handed all three.
+#[tactic(auto, unfolding(model::specs::Stopping::test_fails))]
 pub fn try_exchange(s: Shape, t: &mut [f64], u: &mut [f64], b: Neighbours) -> bool
     requires { Holds s t.old × Beside s u.old × Fits s b }
     ensures { Done s.ld s.n u.old t.new u.new (Stopping.try_exchange binary64 s.ld s.n b.row b.n1 b.n2 t.old) × (result ≡ Stopping.test_fails binary64 s.ld t.old b.row b.n1 b.n2) × (Swaps.swaps_of (Stopping.try_exchange binary64 s.ld s.n b.row b.n1 b.n2 t.old) ≡ 1) × (Swaps.declined_of (Stopping.try_exchange binary64 s.ld s.n b.row b.n1 b.n2 t.old) ≡ cond result 1 0) }

@@ -29,6 +29,7 @@ fn exchanged_b(x: Block) -> Block
 
 // The rows from row j on so standardised if there are two. Not one function with `standardise_if` of crate
 // `schur`, which turns no block over.
+#[tactic(auto, unfolding(model::specs::Stopping::standardise_also, model::specs::Columns::on_factor))]
 pub fn standardise_also(s: Shape, t: &mut [f64], u: &mut [f64], size: usize, j: usize)
     requires { Holds s t.old × Beside s u.old × (j + size ≤ s.n) }
     ensures { Done s.ld s.n u.old t.new u.new (Stopping.standardise_also binary64 s.ld s.n size j t.old) }

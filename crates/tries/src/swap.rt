@@ -14,6 +14,7 @@ use swaps::window::Window;
 // The largest magnitude that the test looks at. With w for the window and x for what it is when tried: the two
 // numbers of x that an exchange makes zero, and how far the single row's diagonal number, the first of w and the
 // last of x, has changed.
+#[tactic(auto, unfolding(model::specs::Stopping::left12, model::specs::Stopping::left21))]
 fn left_3(single: Single, w: Window<3>, x: Window<3>) -> f64
     ensures { result ≡ left3 single (window3 w) (window3 x) }
 {

@@ -75,6 +75,7 @@ fn walk_from<K: Kind>(
 
 // The block that row `from` is in to the place of the one that row `to` is in: Err where an exchange has
 // stopped it on the way.
+#[tactic(auto, unfolding(model::specs::Stopping::walk))]
 pub fn walk<K: Kind>(
     s: Shape,
     t: &mut [f64],

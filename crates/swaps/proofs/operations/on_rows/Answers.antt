@@ -1,16 +1,11 @@
 -- `swaps::operations::on_rows` meets its contract. Assumes nothing.
-use mathlib.Core.Path.{◌≡◌, refl, sym, ap, ◌∙◌}
+use mathlib.Core.Path.{◌≡◌, ◌∙◌}
 use lib.ListN.{get_or}
 use Prim.Native.Nat.{ℕ, ◌-◌}
 use native.Mathlib.Omega.{arith}
 use Rattle.model.specs.Form.{place}
-use Rattle.swaps.specs.Lines.{change_run}
 use Rattle.swaps.proofs.Changes.{columns_on, one_more}
 use Rattle.swaps.proofs.operations.on_rows.Goals as goal
-
-pub loop-c-init : goal.loop-c-init
-unfolding change_run
-loop-c-init g c = let e : c.args.j - c.args.j ≡ 0 = omega arith in (refl, rw e refl)
 
 pub loop-c-preserved : goal.loop-c-preserved
 loop-c-preserved g c =
@@ -22,10 +17,3 @@ loop-c-preserved g c =
       one_more g.row.N _ a.s.ld (c.loop-c.c - a.j) (λ (m : ℕ). place a.s.ld (get_or a.rows m 0) a.j) (λ (m : ℕ). get_or c.loop-m.places m 0) a.t.now v.1 c.change.ensures
           (λ m l. h.1 m (omega arith) ∙ columns_on _ a.s.ld a.j c.loop-c.c c.loop-c.auto.c) (omega arith),
     )
-
-pub returns : goal.returns
-returns g c =
-    let a = c.args in
-    let e : c.loop-c.c ≡ a.s.n = omega arith in
-    c.loop-c.invariant.1 ∙ ap (λ (k : ℕ). change_run g.row.N (g.K.Kernel.gives a.k) a.s.ld (k - a.j) 0 (λ (m : ℕ). place a.s.ld (get_or a.rows m 0) a.j) a.t.now) e
-    ∙ sym ((g.met.K.Kernel.unfolds a.k).rows a.s.ld a.j (a.s.n - a.j) a.rows a.t.now)

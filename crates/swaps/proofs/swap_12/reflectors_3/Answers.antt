@@ -5,9 +5,6 @@ use Rattle.swaps.specs.View.{columns3}
 use Rattle.swaps.proofs.Windows.{transposed_3}
 use Rattle.swaps.proofs.swap_12.reflectors_3.Goals as goal
 
-pub returns-in-First : goal.returns-in-First
-returns-in-First c = rw c.in-First.is c.reflectors_of.ensures
-
 pub returns-in-Last : goal.returns-in-Last
 returns-in-Last c =
     rw c.in-Last.is (c.reflectors_of-in-Last.ensures ∙ ap reflectors_of (ap columns3 c.transposed.ensures ∙ transposed_3 c.args.w.columns))

@@ -1,9 +1,7 @@
 -- `tries::exchange::try_exchange` meets its contract. Assumes nothing.
 use mathlib.Core.Bool.{true, false}
 use mathlib.Core.Path.{refl, sym, ◌∙◌}
-use native.Mathlib.Omega.{arith}
 use Rattle.model.specs.Stopping.{test_fails}
-use Rattle.form.proofs.Runs.{still}
 use Rattle.swaps.proofs.Sizes.{one1, one2}
 use Rattle.tries.proofs.Tries.{failed, passed, whole, single}
 use Rattle.tries.proofs.exchange.try_exchange.Goals as goal
@@ -18,19 +16,6 @@ returns-then-try_swap c =
     let w = c.try_swap in
     let h = sym w.ensures.1 ∙ c.if-try_swap.true in
     whole _ _ _ _ _ _ true (failed _ _ _ _ _ _ h w.ensures.0) (sym h)
-
-pub standardise_also-requires : goal.standardise_also-requires
-standardise_also-requires c =
-    let h = c.requires in
-    let k = c.try_swap.auto in
-    (k.t ∙ h.0, still c.args.s h.1 k.u, omega arith)
-
-pub standardise_also-requires-2 : goal.standardise_also-requires-2
-standardise_also-requires-2 c =
-    let h = c.requires in
-    let k = c.try_swap.auto in
-    let m = c.standardise_also.auto in
-    (m.t ∙ k.t ∙ h.0, still c.args.s h.1 (m.u ∙ k.u), omega arith)
 
 pub returns : goal.returns
 returns c =
