@@ -1,1 +1,2 @@
 pub mod Hypot
+pub mod Left

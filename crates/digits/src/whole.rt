@@ -63,7 +63,7 @@ impl Radicand {
 
     // A number near 2^32 / √m, with m = d / 2^52: on a line of the table, within one part in 2^14. Promised
     // is that it is no higher than where the line starts, and no lower than where it ends.
-    fn near_inverse(self) -> u64
+    pub fn near_inverse(self) -> u64
         ensures { NearInverse self.digits result }
     {
         let line = line_at(self.digits / 0x8000_0000_0000);

@@ -27,7 +27,7 @@ fn add_magnitudes(xs: &[f64], norm: f64) -> f64
 }
 
 // The sum of magnitudes, column after column, each down to the subdiagonal. By index: the form's chunks of ld numbers
-// are its columns, but chunks_exact wants 0 < ld, and a Shape does not say so.
+// are its columns, but chunks_exact wants 0 < ld, and a Shape, which need not have a row, does not say so.
 #[tactic(auto, unfolding(model::specs::Vectors::form_norm, model::specs::Vectors::norm_columns))]
 fn form_norm(s: Shape, t: &[f64]) -> f64
     requires { Holds s t.now }
@@ -42,7 +42,7 @@ fn form_norm(s: Shape, t: &[f64]) -> f64
 }
 
 // What f makes of each number of `from`, in `to`. By index there: of a loop over iter_mut and zip, a proof knows only
-// the length of what is filled.
+// the length of what is filled. The test programs fill from words, by `bits`, on which no call rests.
 fn fill<F: Fn(f64) -> f64>(to: &mut [f64], from: &[f64], f: F)
     requires { F.IsAlwaysCallable f × (length from.now ≡ length to.old) }
     ensures { (g : Float → Float) → ((x y : Float) → F.post f x y → y ≡ g x) → to.new ≡ map g from.now }

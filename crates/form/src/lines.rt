@@ -13,7 +13,8 @@ use crate::deep::quasi_triangular;
 use crate::shape::Shape;
 use refusal::Refusal;
 
-// The shape of a form that none of lines 2, 17 and 3 to 6 turns away, nor its factor, or the first that does.
+// The shape of a form that none of lines 2, 17 and 3 to 6 turns away, nor its factor, or the first that does. No
+// factor is one of length 0, as document 01 has it.
 #[tactic(auto, using(crate::proofs::Accepted::further_first, refusal::proofs::Told::told), unfolding(model::specs::Form::line4))]
 fn accepted(n: usize, ld: usize, t: &[f64], u: &[f64]) -> Result<Shape, Refusal>
     ensures line { answer result ≡ further_line ld n t.now (line4 ld n u.now) }

@@ -10,8 +10,10 @@ ghost use Rattle.form.specs.Lines.{size_line};
 
 use refusal::Refusal;
 
-// A form has n rows and columns, ld places from one column to the next. Its numbers stand beside it in each call:
-// with them behind a `&mut` in one struct, no ghost field could say how many there are, and most calls are such.
+// A form has n rows and columns, ld places from one column to the next. Its numbers, and the factor's, stand beside
+// it in each call: most take them by `&mut`, and of what a `&mut` in a struct points at no ghost field can say how
+// many there are. What only reads is mostly called between writes; a struct of shape and form would be made anew
+// each time.
 #[derive(Clone, Copy)]
 pub struct Shape {
     pub n: usize,

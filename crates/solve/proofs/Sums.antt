@@ -6,7 +6,7 @@ use native.Mathlib.Omega.{arith}
 use lib.Ieee.{Float, binary64, add, mul, of_bits}
 use Rattle.model.specs.Arith.{inner_from, inner_prod}
 use Rattle.model.specs.Vectors.{split_from, split_prod}
-use Rattle.solve.proofs.Left.{left_suc}
+use Rattle.arith.proofs.Left.{left_suc}
 
 -- the n pairs of x and y, i of them added to a
 abbrev pub Rest : (ℕ → Float) → (ℕ → Float) → ℕ → ℕ → Float → Type 0
@@ -18,7 +18,7 @@ all x y n = rw sub-zero
 
 pub next : (x y : ℕ → Float) (n i : ℕ) (a p : Float) → i < n → p ≡ mul binary64 (x i) (y i) → Rest x y n i a → Rest x y n (i + 1) (add binary64 a p)
 unfolding inner_from
-next x y n i a p h e r = rw e (rw (left_suc i n h) at r)
+next x y n i a p h e r = rw e (rw (left_suc n i h) at r)
 
 pub done : (x y : ℕ → Float) (n i : ℕ) (a : Float) → n ≤ i → Rest x y n i a → a ≡ inner_prod binary64 x y n
 unfolding inner_from

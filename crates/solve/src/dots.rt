@@ -8,7 +8,8 @@ ghost use Rattle.solve.specs.Numbers.{numbers};
 
 use crate::strided::Strided;
 
-// From +0, left to right. By index, here and below: an iterator over a Strided would be an impl with this index in it.
+// From +0, left to right. By index, here and below: `step_by` wants a step that is not 0, which a Strided does not
+// say, and four lists would be a zip of zips.
 #[tactic(auto, using(crate::proofs::Sums::all, crate::proofs::Sums::next, crate::proofs::Sums::done))]
 pub fn inner_prod(lhs: Strided, rhs: Strided) -> f64
     requires { rhs.count ≡ lhs.count }

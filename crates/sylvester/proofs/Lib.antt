@@ -1,3 +1,2 @@
-pub mod Left
 pub mod Order
 pub mod Steps

@@ -25,7 +25,8 @@ struct Pivot {
 
 // The system t * x = b of four rows, and its least pivot. It goes through its steps by value, as document 01 asks
 // of t. A step or a place is a number below 4, as `for` gives it: a struct with the bound in it would have to be
-// made of that number at each turn.
+// made of that number at each turn. Rows go by index: a loop reads row i while it writes those behind it, or reads
+// two lists at the same place.
 #[derive(Clone, Copy)]
 struct System {
     t: [[f64; 4]; 4],
@@ -68,7 +69,7 @@ fn exceeds(t: f64, b: f64) -> bool
 }
 
 // Row r with the multiple of row p taken off that clears place i, where the multiplier then stands.
-#[tactic(auto, using(crate::proofs::Left::left_suc), unfolding(model::specs::Lasy2::reduced_row, model::specs::Lasy2::less_from))]
+#[tactic(auto, using(arith::proofs::Left::left_suc), unfolding(model::specs::Lasy2::reduced_row, model::specs::Lasy2::less_from))]
 fn reduced_row(p: [f64; 4], i: usize, mut r: [f64; 4]) -> [f64; 4]
     requires { i < 4 }
     ensures { result ≡ Lasy2.reduced_row binary64 p i r }
@@ -134,7 +135,7 @@ impl System {
     }
 
     // The largest magnitude at or below and right of (i, i); (i, i) where nothing is found.
-    #[tactic(auto, using(crate::proofs::Left::left_suc), unfolding(model::specs::Lasy2::pivot, model::specs::Lasy2::pivot_from, model::specs::Lasy2::pivot_in_row))]
+    #[tactic(auto, using(arith::proofs::Left::left_suc), unfolding(model::specs::Lasy2::pivot, model::specs::Lasy2::pivot_from, model::specs::Lasy2::pivot_in_row))]
     fn pivot(&self, i: usize) -> Pivot
         requires { i < 4 }
         ensures { result ≡ Lasy2.pivot binary64 self.now.t i }
@@ -153,7 +154,7 @@ impl System {
     }
 
     // The pivot p brought to (i, i).
-    #[tactic(auto, using(crate::proofs::Left::left_suc, std::proofs::lemmas::List::Edits::swap_is), unfolding(crate::proofs::Order::cols_from, model::specs::Lasy2::swap_places))]
+    #[tactic(auto, using(arith::proofs::Left::left_suc, std::proofs::lemmas::List::Edits::swap_is), unfolding(crate::proofs::Order::cols_from, model::specs::Lasy2::swap_places))]
     fn exchange(mut self, i: usize, p: Pivot) -> System
         requires { i < 4 }
         ensures t { result.t ≡ Lasy2.swap_cols (Lasy2.swap_rows self.t p.row i) p.col i }
@@ -181,7 +182,7 @@ impl System {
     }
 
     // Column i cleared below (i, i).
-    #[tactic(auto, using(crate::proofs::Left::left_suc), unfolding(model::specs::Lasy2::eliminate, model::specs::Lasy2::eliminate_from))]
+    #[tactic(auto, using(arith::proofs::Left::left_suc), unfolding(model::specs::Lasy2::eliminate, model::specs::Lasy2::eliminate_from))]
     fn eliminate(mut self, i: usize) -> System
         requires { i < 4 }
         ensures { result ≡ record self { t = Lasy2.eliminate binary64 i self.t } }
@@ -193,7 +194,7 @@ impl System {
     }
 
     // The same of the right-hand side, by the multipliers that then stand in column i.
-    #[tactic(auto, using(crate::proofs::Left::left_suc), unfolding(model::specs::Lasy2::rhs_from))]
+    #[tactic(auto, using(arith::proofs::Left::left_suc), unfolding(model::specs::Lasy2::rhs_from))]
     fn eliminate_rhs(mut self, i: usize) -> System
         requires { i < 4 }
         ensures { result ≡ record self { b = Lasy2.rhs_from binary64 self.t i (4 - (i + 1)) (i + 1) self.b } }
@@ -246,7 +247,7 @@ impl System {
     }
 
     // The number of x at place k, from those behind it.
-    #[tactic(auto, using(crate::proofs::Left::left_suc), unfolding(model::specs::Lasy2::entry_at, model::specs::Lasy2::entry_from))]
+    #[tactic(auto, using(arith::proofs::Left::left_suc), unfolding(model::specs::Lasy2::entry_at, model::specs::Lasy2::entry_from))]
     fn entry(&self, k: usize, x: &[f64; 4]) -> f64
         requires { k < 4 }
         ensures { set x.now k result ≡ Lasy2.entry_at binary64 self.now.t self.now.b k x.now }
@@ -272,7 +273,7 @@ impl System {
     }
 
     // x and its scale, with the order of the columns undone.
-    #[tactic(auto, using(crate::proofs::Left::left_suc), unfolding(crate::proofs::Steps::steps, crate::proofs::Steps::step))]
+    #[tactic(auto, using(arith::proofs::Left::left_suc), unfolding(crate::proofs::Steps::steps, crate::proofs::Steps::step))]
     fn solve(self) -> Solution
         ensures { solution result ≡ Lasy2.solved binary64 self.smin self.t self.b }
     {

@@ -5,7 +5,7 @@ use native.Mathlib.Nat.{zero-add}
 use native.Mathlib.Omega.{arith}
 use lib.ListN.{length}
 use Rattle.model.specs.Vectors.{norm_columns, rows_to}
-use Rattle.solve.proofs.Left.{left_suc}
+use Rattle.arith.proofs.Left.{left_suc}
 use Rattle.evd.proofs.Sums.{least, part_sum}
 use Rattle.evd.proofs.vectors.form_norm.Goals as goal
 

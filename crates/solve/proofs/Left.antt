@@ -1,7 +1,0 @@
--- What is left of a count, one step on, as a definition that recurses on it wants it. Assumes nothing.
-use mathlib.Core.Path.{◌≡◌}
-use Prim.Native.Nat.{ℕ, suc, ◌+◌, ◌-◌, ◌<◌}
-use native.Mathlib.Omega.{arith}
-
-pub left_suc : (i m : ℕ) → i < m → m - i ≡ suc (m - (i + 1))
-left_suc i m h = omega arith
