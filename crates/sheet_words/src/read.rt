@@ -44,17 +44,17 @@ fn more(s: &[u8], p: usize) -> bool
 }
 
 // The words from a place on, each after one byte; as many as there are, or as `out` has room for. The rest
-// of `out` stays: by index, since of a slice that `iter_mut` fills a proof knows only the length.
+// of `out` stays.
 pub fn words(out: &mut [u64], s: &[u8], at: usize) -> usize
     requires { (at ≤ 200000) × (length out.old ≤ 10000) }
     ensures { (result ≤ length out.new) × Put out.old 0 (Text.words_at s.now (length out.old) at) out.new result }
 {
-    for n in 0..out.len() {
+    for (n, place) in out.iter_mut().enumerate() {
         let p = at + 17 * n;
         if !more(s, p) {
             return n;
         }
-        out[n] = word(s, p + 1);
+        *place = word(s, p + 1);
     }
     out.len()
 }
