@@ -3,6 +3,8 @@ ghost use Rattle.std.specs.Prelude.{◌≡◌, map, length};
 ghost use Rattle.std.specs.Float.{binary64};
 ghost use Rattle.std.specs.Float.Ieee.{of_bits, nan_bits};
 
+use crate::fill::fill;
+
 // Whether w is a NaN's pattern.
 pub fn is_nan(w: u64) -> bool
     ensures { result ≡ nan_bits binary64 w }
@@ -21,12 +23,10 @@ pub fn float_of(w: u64) -> f64
     }
 }
 
-// The numbers of all words. Filled by index: through iter_mut and zip a proof knows only the length of `out`.
+// The numbers of all words.
 pub fn floats_of(w: &[u64], out: &mut [f64])
     requires { length w.now ≡ length out.old }
     ensures { out.new ≡ map (of_bits binary64) w.now }
 {
-    for (i, &word) in w.iter().enumerate() {
-        out[i] = float_of(word);
-    }
+    fill(out, w, float_of);
 }

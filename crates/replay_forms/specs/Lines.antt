@@ -21,7 +21,8 @@ more Stride.Given = 1
 abbrev pub are : List ℕ → ℕ → ℕ → List Float → Bool
 are w i k x = are_words x (take k (drop i w))
 
--- so many words are `rest` and buffers that a room holds: one of `once` numbers that is given, and two of a and b numbers that are given and expected
+-- so many words are `rest` and buffers that a room holds: one of `once` numbers that is given, and two of a and b
+-- numbers that are given and expected
 unfoldable pub fits : ℕ → ℕ → ℕ → ℕ → ℕ → Bool
 fits words rest once a b = leb once 8320 && leb a 8320 && leb b 8320 && eqb words (rest + once + 2 * (a + b))
 
@@ -55,7 +56,7 @@ stopping ld n g t u = of_stopping (Stopping.stopping_call binary64 ld n t u (get
 abbrev pub exchange : Call
 exchange ld n g t u = of_exchange (Exchange.exchange_call binary64 ld n t u (get_or g 0 0) (get_or g 1 0) (get_or g 2 0))
 
--- the call of a line that gives g numbers, a form of a numbers and a factor of b, and expects k numbers, form and factor
+-- the call of a line that gives g numbers, a form of a numbers and a factor of b; expected are k numbers, form, factor
 unfoldable pub same_two : Call → ℕ → ℕ → ℕ → List ℕ → ℕ → ℕ → Bool
 same_two call g k more w a b =
     let i = 3 + more + g in

@@ -5,7 +5,7 @@ ghost use Rattle.std.specs.Float.Ieee.{of_bits};
 
 use bits::float::floats_of;
 
-// Room for 65 columns, one more than a call takes, 128 places apart.
+// Room for 65 columns, one more than a call takes, 128 places apart. Nothing here allocates.
 pub const ROOM: usize = 8320;
 
 // The front of a room with the numbers of the words, if it holds them.

@@ -13,7 +13,8 @@ use replay_text::outcome::{Outcome, judge_read};
 use values::blocks::values_read;
 use values::reading::{AsItStands, Reading, StandardisedFirst};
 
-// Two lengths, n, the stride if it is given, form, vectors; answer, vectors.
+// Two lengths, n, the stride if it is given, form, vectors; answer, vectors. Not by `on_two` of `moves`: its lines end
+// in all buffers that they give, and these in one of two, those of `on_values` in two of three.
 #[tactic(auto, unfolding(crate::specs::Lines::fits))]
 fn on_vectors(stride: Stride, w: &[u64]) -> Option<bool>
     ensures { judged_read result ≡ Lines.evd_from_real_schur (more stride) w.now }

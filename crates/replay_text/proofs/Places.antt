@@ -8,6 +8,10 @@ use Rattle.std.specs.Simd.{first_chunks}
 use Rattle.bits.specs.Hex.{digit_of}
 use Rattle.replay_text.specs.Text.{digits_from, word_at, words_from, words_of}
 
+-- what is left before a turn is one more than after it
+pub left : (m i : ℕ) → i < m → m - i ≡ suc (m - (i + 1))
+left m i inside = omega arith
+
 -- the chunks of 17 bytes
 pub chunk_at : (t : List ℕ) (m i : ℕ) → i < m → get_or (first_chunks 17 m t) i [] ≡ take 17 (drop (17 * i) t)
 chunk_at t zero i h = absurd (omega arith)
@@ -75,7 +79,7 @@ module _ (s out : List ℕ) (at n : ℕ) where
   pub more : at < length s → n < length out → (w : ℕ) → word_at s at ≡ Some w
       → words_from s (length (set out n w) - (n + 1)) (at + 17) (n + 1) (set out n w) ≡ words_from s (length out - n) at n out
   unfolding words_from
-  more h room w e = let left : length out - n ≡ suc (length out - (n + 1)) = omega arith in rw (length-set, left, lt-ltb at (length s) h, e)
+  more h room w e = rw (length-set, left (length out) n room, lt-ltb at (length s) h, e)
 
   -- r bytes are left, fewer than a place has: the line has ended where there are none
   pub last : (k r m : ℕ) → r + at ≡ length s → r < 17 → m ≡ n → record { found = then_some (r == 0) m; out = out } ≡ words_from s k at n out

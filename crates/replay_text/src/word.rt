@@ -20,8 +20,9 @@ fn word(place: &[u8]) -> Option<u64>
     Some(word)
 }
 
-// The words from a place of the line to its end, written to `out`. More words than `out` has
-// room for are malformed; the words before what is malformed are written.
+// The words from a place of the line to its end, written to `out`. More words than `out` has room for are malformed;
+// the words before what is malformed are written. By index: of an `out` that `iter_mut().zip(places)` fills, a proof
+// knows only the length.
 pub fn words(s: &[u8], from: usize, out: &mut [u64]) -> Option<usize>
     ensures { (record { found = result; out = out.new }) ≡ words_of s.now from out.old }
 {

@@ -11,6 +11,10 @@ use lib.Seq.{get_or-drop, drop-drop, drop_at, drop-append-add}
 use borrow.Author.Tests.{le-ltb, le-leb, lt-leb, ltb-true, ltb-false, ne_eqb}
 use Rattle.model.specs.Text.{glyph, decimal_in, decimal, hex_in, word, spaced, words, number_at, digit_of, digits_from, more_at, words_at}
 
+-- what is left before a turn is one more than after it
+pub left : (m i : ℕ) → i < m → m - i ≡ suc (m - (i + 1))
+left m i inside = omega arith
+
 -- where a word follows, it lies inside the text
 pub more-fits : (s : List ℕ) (p : ℕ) → more_at s p ≡ true → p + 17 ≤ length s
 unfolding more_at

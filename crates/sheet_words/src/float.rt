@@ -2,6 +2,7 @@
 ghost use Rattle.std.specs.Prelude.{◌≡◌, ◌++◌, ◌≤◌, length, drop};
 ghost use Rattle.model.specs.Text as Text;
 
+use bits::fill::fill;
 use bits::float::floats_of;
 
 // The bits of a number, and of a NaN always the same.
@@ -28,7 +29,5 @@ pub fn words_of(out: &mut [u64], x: &[f64])
     requires { length x.now ≤ length out.old }
     ensures { out.new ≡ Text.words_of x.now ++ drop (length x.now) out.old }
 {
-    for (i, &number) in x.iter().enumerate() {
-        out[i] = word_of(number);
-    }
+    fill(&mut out[..x.len()], x, word_of);
 }

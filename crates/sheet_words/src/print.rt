@@ -38,8 +38,8 @@ impl Page<'_> {
         self.at = end;
     }
 
-    // A word. Its digits are found from the last on, and put by index: of an array that `iter_mut` fills a proof
-    // knows only the length.
+    // A word. Its digits are found from the last on, and put by index: of an array that `iter_mut().rev()` fills a
+    // proof knows only the length.
     fn word(&mut self, w: u64)
         requires { self.old.at + 16 ≤ length self.old.out.now }
         ensures { (self.new.at ≡ self.old.at + 16) × Puts self.old (Text.word w) self.new }
@@ -113,8 +113,8 @@ impl Says for &[u64] {
     }
 }
 
-// The `answer=` line, alone. A number is what stands there: a `Refusal` becomes one in `sheet_text::sheet::sheet`
-// alone, and this crate knows none. Answers how many bytes the line has, as the next two do.
+// The `answer=` line, alone. A number is what stands there: for a sheet, a `Refusal` becomes one in
+// `sheet_text::sheet::sheet`, and this crate knows none. Answers how many bytes the line has, as the next two do.
 pub fn put_answer(out: &mut [u8], answer: usize) -> usize
     requires { 30 ≤ length out.old }
     ensures { (result ≤ length out.new) × Put out.old 0 (Text.answer_line answer) out.new result }

@@ -7,17 +7,18 @@ ghost use Rattle.sheet_words.specs.Put.{Put};
 
 use bits::hex::digit;
 
-// The number of at most four digits at a place, and the place after them.
+// The number of at most four digits at a place, and the place after them. Past the text's end stands no digit.
 pub fn number(s: &[u8], at: usize) -> (usize, usize)
     requires { at ≤ 100000 }
     ensures { ((record { value = result.0; next = result.1 }) ≡ Text.number_at s.now 4 0 at) × (result.0 < 10000) × (result.1 ≤ at + 4) }
 {
     let mut value = 0;
     for next in at..at + 4 {
-        if next >= s.len() || !s[next].is_ascii_digit() {
+        let b = s.get(next).copied().unwrap_or(0);
+        if !b.is_ascii_digit() {
             return (value, next);
         }
-        value = value * 10 + (s[next] - b'0') as usize;
+        value = value * 10 + (b - b'0') as usize;
     }
     (value, at + 4)
 }
@@ -44,17 +45,17 @@ fn more(s: &[u8], p: usize) -> bool
 }
 
 // The words from a place on, each after one byte; as many as there are, or as `out` has room for. The rest
-// of `out` stays: by index, since of a slice that `iter_mut` fills a proof knows only the length.
+// of `out` stays.
 pub fn words(out: &mut [u64], s: &[u8], at: usize) -> usize
     requires { (at ≤ 200000) × (length out.old ≤ 10000) }
     ensures { (result ≤ length out.new) × Put out.old 0 (Text.words_at s.now (length out.old) at) out.new result }
 {
-    for n in 0..out.len() {
+    for (n, place) in out.iter_mut().enumerate() {
         let p = at + 17 * n;
         if !more(s, p) {
             return n;
         }
-        out[n] = word(s, p + 1);
+        *place = word(s, p + 1);
     }
     out.len()
 }

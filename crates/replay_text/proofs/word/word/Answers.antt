@@ -1,9 +1,10 @@
 -- `replay_text::word::word` meets its contract. The invariant: the digits that are left, after the word so far, give the whole word. Assumes nothing.
-use Rattle.std.proofs.Common.{◌≡◌, ℕ, suc, ◌+◌, ◌-◌, ◌*◌, ◌<◌, ◌≤◌, List, length, get_or, sym, ◌∙◌, arith, eq-eqb, ne_eqb, Option, Some, None, take, drop}
+use Rattle.std.proofs.Common.{◌≡◌, ℕ, ◌+◌, ◌-◌, ◌*◌, ◌<◌, ◌≤◌, List, length, get_or, sym, ◌∙◌, arith, eq-eqb, ne_eqb, Option, Some, None, take, drop}
 use Rattle.std.proofs.lemmas.List.{get_or-drop, get_or-take, length-take, length-drop}
 use Rattle.bits.specs.Hex.{digit_of}
 use Rattle.bits.proofs.Digits.{grow, room}
 use Rattle.replay_text.specs.Text.{digits_from, word_at}
+use Rattle.replay_text.proofs.Places.{left}
 use Rattle.replay_text.proofs.word.word.Goals as goal
 
 -- the digits are all bytes after the first
@@ -11,16 +12,13 @@ module _ (s : List ℕ) (i w : ℕ) (inside : i < 16) where
   digit_at : length s ≡ 17 → get_or (take (length s - 1) (drop 1 s)) i 0 ≡ get_or s (1 + i) 0
   digit_at h = rw h (get_or-take 16 (drop 1 s) i 0 inside ∙ get_or-drop 1 s i 0)
 
-  left : 16 - i ≡ suc (16 - (i + 1))
-  left = omega arith
-
   bad : digit_of (get_or s (1 + i) 0) ≡ None → None ≡ digits_from s (16 - i) (1 + i) w
   unfolding digits_from
-  bad h = rw (left, h)
+  bad h = rw (left 16 i inside, h)
 
   more : (d : ℕ) → digit_of (get_or s (1 + i) 0) ≡ Some d → digits_from s (16 - (i + 1)) (1 + (i + 1)) (w * 16 + d) ≡ digits_from s (16 - i) (1 + i) w
   unfolding digits_from
-  more d h = let e : 1 + (i + 1) ≡ 1 + i + 1 = omega arith in rw (left, h, e)
+  more d h = let e : 1 + (i + 1) ≡ 1 + i + 1 = omega arith in rw (left 16 i inside, h, e)
 
 none : (s : List ℕ) (i w : ℕ) → 16 ≤ i → Some w ≡ digits_from s (16 - i) (1 + i) w
 unfolding digits_from

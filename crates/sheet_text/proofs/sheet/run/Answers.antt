@@ -1,5 +1,5 @@
 -- `sheet_text::sheet::run` meets its contract. Assumes nothing.
-use Rattle.std.proofs.Common.{◌≡◌, List, ℕ, Float, Result, Ok, Err, refl, ap, ap₂, ◌∙◌, rules}
+use Rattle.std.proofs.Common.{◌≡◌, List, ℕ, Float, Ok, Err, refl, ap, ap₂, ◌∙◌, rules}
 use lib.ListN.{length-map}
 use lib.Ieee.{binary64, of_bits}
 use Rattle.model.specs.Move as Move

@@ -1,7 +1,7 @@
 -- `sheet_text::sheet::sheet_of` meets its contract. Assumes nothing.
 use Rattle.std.proofs.Common.{◌≡◌, ◌∙◌, ◌≤◌, ℕ, List, Result, IfOk, IfErr, length, replicate, subst, rules, arith}
 use Rattle.std.proofs.lemmas.Result.{IfOk-weaker, IfErr-weaker}
-use Rattle.model.specs.Text.{answer_line, sheet_of}
+use Rattle.model.specs.Text.{answer_line}
 use Rattle.refusal.specs.Line.{line}
 use Rattle.refusal.specs.declared.Refusal.{Refusal}
 use Rattle.sheet_words.specs.Put.{Put}

@@ -2,10 +2,8 @@
 use Rattle.std.proofs.Common.{rules, ◌≡◌, ℕ, List, get_or, zero, suc, Bool, true, false, ltb, refl, ltb-false, lt-ltb, ◌+◌, ◌-◌, ◌*◌, ◌^◌, ◌≤◌, ◌<◌, ◌∙◌, arith, add-one, lt_of_lt_of_le}
 use Rattle.std.proofs.lemmas.Bool.{le-ltb}
 use native.Mathlib.Nat.{pow-le-pow_right}
-use lib.ListN.{get_or-eq_default}
 use Rattle.model.specs.Text.{number_at}
 use Rattle.sheet_words.proofs.read.number.Goals as goal
-use Rattle.sheet_words.proofs.read.number.Goals.{then-next-s-via-then-next-s, then-next-s-via-else-next-s+then-not-is_ascii_digit}
 
 -- one digit more is ten times more
 grow : (i v d : ℕ) → v < 10 ^ i → d ≤ 9 → v * 10 + d < 10 ^ (i + 1)
@@ -32,21 +30,18 @@ on s v p (suc k) l h g =
     let e : suc k - 1 ≡ k = omega arith in
     rw (e, le-ltb (get_or s p 0) 48 h, le-ltb 57 (get_or s p 0) g)
 
-pub returns-then-next-s : goal.returns-then-next-s
-returns-then-next-s c =
-    let b = get_or c.args.s.now c.loop-next.next 0 in
-    let ends : 0 < c.args.at + 4 - c.loop-next.next → 48 ≤ b → 57 < b = elim c.then-next-s.branch [
-      | then-next-s-via-then-next-s w ↦ λ l h. omega (arith, get_or-eq_default {A = ℕ})
-      | then-next-s-via-else-next-s+then-not-is_ascii_digit w ↦ λ l h. omega (arith, w.if-not-is_ascii_digit.ensures.cases)
-    ] in
-    (stop _ _ _ _ ends ∙ c.loop-next.invariant.1, small _ _ (omega arith) c.loop-next.invariant.0, search rules)
+pub returns-then-not-is_ascii_digit : goal.returns-then-not-is_ascii_digit
+returns-then-not-is_ascii_digit c =
+    let b = rw c.copied.ensures at c.unwrap_or-b.ensures ∙ c.get.ensures.lookup.4 (omega arith) 0 in
+    (stop _ _ _ _ (λ l h. omega (arith, b, c.if-not-is_ascii_digit.ensures.cases)) ∙ c.loop-next.invariant.1, small _ _ (omega arith) c.loop-next.invariant.0, search rules)
 
 pub loop-next-preserved : goal.loop-next-preserved
 loop-next-preserved c =
     let i : c.loop-next.next + 1 - c.args.at ≡ c.loop-next.next - c.args.at + 1 = omega arith in
     let k : c.args.at + 4 - (c.loop-next.next + 1) ≡ c.args.at + 4 - c.loop-next.next - 1 = omega arith in
+    let b = rw c.copied.ensures at c.unwrap_or-b.ensures ∙ c.get.ensures.lookup.4 (omega arith) 0 in
     let d = c.if-not-is_ascii_digit.ensures.cases in
-    (rw i (grow _ _ _ c.loop-next.invariant.0 (omega (arith, d))), rw k (on _ _ _ _ (omega arith) d.0 d.1) ∙ c.loop-next.invariant.1)
+    (rw i (grow _ _ _ c.loop-next.invariant.0 (omega (arith, d))), rw (k, b) (on _ _ _ _ (omega arith) (omega (arith, b, d)) (omega (arith, b, d))) ∙ c.loop-next.invariant.1)
 
 pub returns : goal.returns
 returns c =

@@ -1,11 +1,12 @@
 -- `sheet_words::read::word` meets its contract. Assumes nothing.
-use Rattle.std.proofs.Common.{◌≡◌, ℕ, List, suc, ◌+◌, ◌-◌, ◌*◌, ◌<◌, ◌≤◌, ◌∙◌, get_or, take, drop, length, ap, arith, Option, Some, None}
+use Rattle.std.proofs.Common.{◌≡◌, ℕ, List, ◌+◌, ◌-◌, ◌*◌, ◌<◌, ◌≤◌, ◌∙◌, get_or, take, drop, length, ap, arith, Option, Some, None}
 use Rattle.std.specs.Option.{unwrap_or, IfSome}
 use lib.Seq.{length-take-le}
 use Rattle.std.proofs.lemmas.List.{length-drop, get_or-take, get_or-drop}
 use Rattle.bits.specs.Hex as Hex
 use Rattle.bits.proofs.Digits.{grow, room}
 use Rattle.model.specs.Text.{digit_of, digits_from}
+use Rattle.sheet_words.proofs.Reading.{left}
 use Rattle.sheet_words.proofs.read.word.Goals as goal
 
 -- the digit's value, and 0 where there is none
@@ -14,12 +15,9 @@ unfolding Hex.digit_of digit_of
 same b = grind (arith)
 
 module _ (s : List ℕ) (m i at w d : ℕ) (inside : i < m) (is : d ≡ digit_of (get_or s (at + i) 0)) where
-  left : m - i ≡ suc (m - (i + 1))
-  left = omega arith
-
   more : digits_from s (m - (i + 1)) (at + (i + 1)) (w * 16 + d) ≡ digits_from s (m - i) (at + i) w
   unfolding digits_from
-  more = let e : at + (i + 1) ≡ at + i + 1 = omega arith in rw (left, is, e)
+  more = let e : at + (i + 1) ≡ at + i + 1 = omega arith in rw (left m i inside, is, e)
 
 none : (s : List ℕ) (m i at w : ℕ) → m ≤ i → w ≡ digits_from s (m - i) at w
 unfolding digits_from

@@ -1,23 +1,21 @@
 -- `sheet_words::read::words` meets its contract. Assumes nothing.
-use Rattle.std.proofs.Common.{rules, ◌≡◌, ℕ, List, true, false, suc, ◌+◌, ◌-◌, ◌*◌, ◌<◌, ◌≤◌, ◌++◌, ◌∙◌, length, take, set, sym, arith, add-one, append-nil}
+use Rattle.std.proofs.Common.{rules, ◌≡◌, ℕ, List, true, false, ◌+◌, ◌-◌, ◌*◌, ◌<◌, ◌≤◌, ◌++◌, ◌∙◌, length, take, set, sym, arith, add-one, append-nil}
+use Rattle.std.proofs.lemmas.List.{set-get_or}
 use lib.Seq.{take-suc-set, append_snoc}
 use Rattle.model.specs.Text.{digits_from, more_at, words_at}
-use Rattle.sheet_words.proofs.Reading.{more-fits}
+use Rattle.sheet_words.proofs.Reading.{left, more-fits}
 use Rattle.sheet_words.proofs.Put.{rest_stays, put-start}
 use Rattle.sheet_words.proofs.read.words.Goals as goal
 
 module _ (s out : List ℕ) (m n p : ℕ) (inside : n < m) where
-  left : m - n ≡ suc (m - (n + 1))
-  left = omega arith
-
   stop : more_at s p ≡ false → take n out ≡ take n out ++ words_at s (m - n) p
   unfolding words_at
-  stop e = rw (left, e, append-nil)
+  stop e = rw (left m n inside, e, append-nil)
 
   next : (w : ℕ) → n < length out → more_at s p ≡ true → w ≡ digits_from s 16 (p + 1) 0
       → take (n + 1) (set out n w) ++ words_at s (m - (n + 1)) (p + 17) ≡ take n out ++ words_at s (m - n) p
   unfolding words_at
-  next w h e is = rw (left, e, add-one n, take-suc-set out n w h, append_snoc, is)
+  next w h e is = rw (left m n inside, e, add-one n, take-suc-set out n w h, append_snoc, is)
 
 none : (s out : List ℕ) (m n p : ℕ) → m ≤ n → take n out ≡ take n out ++ words_at s (m - n) p
 unfolding words_at
@@ -26,6 +24,7 @@ none s out m n p h = let e : m - n ≡ 0 = omega arith in rw (e, append-nil)
 pub returns-then-not-more : goal.returns-then-not-more
 returns-then-not-more c =
     let l = c.loop-n in
+    rw (set-get_or l.out l.n 0)
     (search rules, put-start _ _ _ _ (search rules) (stop _ l.out _ l.n _ c.loop-n-test.true (sym c.more.ensures ∙ c.if-not-more.true) ∙ l.invariant.0) l.invariant.1)
 
 pub word-requires : goal.word-requires
