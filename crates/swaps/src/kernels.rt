@@ -118,6 +118,8 @@ impl<const A: usize, const B: usize> Reflectors<A, B> {
     }
 }
 
+// Three and four numbers have an impl each: model has an operation for each, and one impl for all lengths would be of
+// `Kernel<{ A + 1 }>`, where the language has no const argument that is computed from a parameter.
 impl Kernel<3> for Reflectors<2, 1> {
     ghost gives = { λ v x. reflected3 (reflection3 v) x };
 
