@@ -31,8 +31,8 @@ impl Kind for Stops {
     ghost few = { omega arith };
 }
 
-// Whether a move has stopped, which C is given too, the row of the moved block, and the counts, which are numbers
-// of the answer itself and no Counts, since document 01 asks for that form.
+// What document 02 has this move answer (Note 6): whether it has stopped, the row of the moved block, and the counts
+// so far. These are numbers of the answer itself and no Counts, since C is given each as it is.
 #[derive(Clone, Copy)]
 pub struct Stopped {
     pub stopped: bool,

@@ -38,7 +38,8 @@ rows3 Last j = (j + 2) ∷ (j + 1) ∷ j ∷ []
 abbrev pub rows4 : ℕ → List ℕ
 rows4 j = j ∷ (j + 1) ∷ (j + 2) ∷ (j + 3) ∷ []
 
--- the two reflections of the second and the third column of the window of these rows, each less the single row's diagonal number
+-- the two reflections of the second and the third column of the window of these rows, each less the single row's
+-- diagonal number
 abbrev pub reflectors_of : Window3 → Reflect3
 reflectors_of w =
     reflectors3 binary64 (record { x0 = w.c1.x0; x1 = sub binary64 w.c1.x1 w.c0.x0; x2 = w.c1.x2 }) (record { x0 = w.c2.x0; x1 = w.c2.x1; x2 = sub binary64 w.c2.x2 w.c0.x0 })

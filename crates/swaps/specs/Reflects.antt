@@ -23,7 +23,8 @@ reflects_from m p tau v x = less_of m p (mul binary64 (product_of m p v x) tau) 
 abbrev pub reflection_of : ℕ → List Float → Reflection
 reflection_of p x = make_householder binary64 (at x p) (drop (p + 1) x)
 
--- the two reflections of the columns a and b: of a's last m1 + 1 numbers, and of the last m2 + 1 of what that makes of b
+-- the two reflections of the columns a and b: of a's last m1 + 1 numbers, and of the last m2 + 1 of what that
+-- makes of b
 pub record IsReflectors (m1 m2 n : ℕ) (a b : List Float) (tau1 : Float) (v1 : List Float) (tau2 : Float) (v2 : List Float) : Type 0 where
   pub first : (tau1 ≡ recip binary64 (reflection_of (n - (m1 + 1)) a).tau) × (v1 ≡ (reflection_of (n - (m1 + 1)) a).tail)
   pub second : (tau2 ≡ recip binary64 (reflection_of (n - (m2 + 1)) (reflects_from m1 (n - (m1 + 1)) tau1 v1 b)).tau) × (v2 ≡ (reflection_of (n - (m2 + 1)) (reflects_from m1 (n - (m1 + 1)) tau1 v1 b)).tail)

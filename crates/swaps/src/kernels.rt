@@ -69,22 +69,23 @@ impl<const M: usize> Reflector<M> {
         }
     }
 
-    // The last M + 1 of N numbers reflected: each number less its part of the sum, times tau. By index: of
-    // a loop that fills y through `iter_mut` a proof knows only the length, and the sum goes along the same places.
+    // The last M + 1 of N numbers reflected: each number less its part of the sum, times tau.
     fn reflect<const N: usize>(&self, x: [f64; N]) -> [f64; N]
         requires { M + 1 ≤ N }
         ensures { result ≡ reflects_from M (N - (M + 1)) self.now.tau self.now.v x.entry }
     {
         let from = N - (M + 1);
         let mut sum = x[from];
-        for m in 0..M {
-            sum += self.v[m] * x[from + 1 + m];
+        for (m, v) in self.v.iter().enumerate() {
+            sum += *v * x[from + 1 + m];
         }
         let k = sum * self.tau;
         let mut y = x;
         y[from] = x[from] - k;
-        for m in 0..M {
-            y[from + 1 + m] = x[from + 1 + m] - k * self.v[m];
+        let all = &mut y[..];
+        let tail = &mut all[from + 1..];
+        for (m, number) in tail.iter_mut().enumerate() {
+            *number -= k * self.v[m];
         }
         y
     }
@@ -117,6 +118,8 @@ impl<const A: usize, const B: usize> Reflectors<A, B> {
     }
 }
 
+// Three and four numbers have an impl each: model has an operation for each, and one impl for all lengths would be of
+// `Kernel<{ A + 1 }>`, where the language has no const argument that is computed from a parameter.
 impl Kernel<3> for Reflectors<2, 1> {
     ghost gives = { λ v x. reflected3 (reflection3 v) x };
 

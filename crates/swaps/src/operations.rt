@@ -9,7 +9,8 @@ ghost use Rattle.swaps.specs.Lines.{Inside, change_at};
 use crate::kernels::Kernel;
 use form::shape::Shape;
 
-// The numbers at N places changed. By index, here and below, for the reason that stands at `Window`.
+// The numbers at N places changed. Arrays are filled by index, here and below, for the reason that stands at `Window`;
+// t is too, as places are indices, and of a zip of places and y a proof would know pairs, not how many are done.
 fn change<const N: usize, K: Kernel<N>>(t: &mut [f64], k: K, places: [usize; N])
     requires { Inside N places (length t.old) }
     ensures { t.new ≡ change_at N (K.gives k) (λ (m : ℕ). get_or places.entry m 0) t.old }

@@ -16,7 +16,7 @@ use Rattle.model.specs.Swaps.{Change, unchanged, declines_in}
 use Rattle.model.specs.Exchange.{Exchanged, exchanged}
 use Rattle.model.specs.Move as Move
 use Rattle.model.specs.Stopping as Stopping
-use Rattle.model.specs.Stopping.{Kind, goes, onward, trying, whole_down, past_two_down, apart_down, step_down, walk_down, whole_up, past_two_up, apart_up, step_up, walk_up, walk_from, walk, goes_on}
+use Rattle.model.specs.Stopping.{Kind, goes, onward, trying, whole_down, past_two_down, apart_down, walk_down, whole_up, past_two_up, apart_up, walk_up, walk_from, walk, goes_on}
 use Rattle.form.specs.declared.shape.Shape.{Shape}
 use Rattle.form.specs.Shaped.{IsOf}
 use Rattle.swaps.specs.Done.{Step}

@@ -33,7 +33,8 @@ pub record Stood (s : Shape) (u₀ t u : List Float) (r : Result Moving Moving) 
   pub stopped : is_err r ≡ G.stopped
   pub stands : Stands s u₀ t u (either r) G.moving
 
--- the code goes from m to r, with form and factor from t and u to t₁ and u₁: whatever model has reached, for any history, is taken on by `next`
+-- the code goes from m to r, with form and factor from t and u to t₁ and u₁: whatever model has reached, for any
+-- history, is taken on by `next`
 abbrev pub Takes : Shape → List Float → List Float → Moving → List Float → List Float → Result Moving Moving → (Move.Moving → Stopping.Going) → Type 0
 Takes s t u m t₁ u₁ r next = (u₀ : List Float) (M : Move.Moving) → Stands s u₀ t u m M → Stood s u₀ t₁ u₁ r (next M)
 

@@ -62,7 +62,8 @@ impl Block {
     }
 }
 
-// The moved block's row, the block, and the counts so far.
+// The moved block's row, the block, and the counts so far. How high these may be is a clause (`Few`) and no ghost
+// field: each exchange raises them, so that one more keeps a field's bound only by a clause that they are lower yet.
 #[derive(Clone, Copy)]
 pub struct Moving {
     pub here: usize,

@@ -1,5 +1,5 @@
 // The walk of a block, with exchanges of either kind.
-ghost use Rattle.std.specs.Prelude.{◌+◌, ◌*◌, ◌≤◌, ◌<◌};
+ghost use Rattle.std.specs.Prelude.{◌+◌, ◌-◌, ◌*◌, ◌≤◌, ◌<◌};
 ghost use Rattle.std.specs.Float.{binary64};
 ghost use Rattle.model.specs.Stopping as Stopping;
 ghost use Rattle.form.specs.Shaped.{Holds, Beside};
@@ -28,7 +28,7 @@ fn walk_down<K: Kind>(
     Ok(on)
 }
 
-// Up until the goal is reached or a step stops.
+// Up until the goal is reached or a step stops. Two functions, as moving.rt has two of each step.
 fn walk_up<K: Kind>(
     s: Shape,
     t: &mut [f64],
@@ -36,7 +36,7 @@ fn walk_up<K: Kind>(
     goal: usize,
     m: Moving,
 ) -> Result<Moving, Moving>
-    requires { Holds s t.old × Beside s u.old × (m.counts.swaps + 12 * m.here ≤ 12 * s.n) × (m.counts.declined + 12 * m.here ≤ 12 * s.n) × (m.here + rows m.block ≤ s.n) }
+    requires { Holds s t.old × Beside s u.old × Few (12 * (s.n - m.here)) m × (m.here + rows m.block ≤ s.n) }
     ensures { Takes s t.old u.old m t.new u.new result (Stopping.walk_up (K.kind s.ld s.n) s.n binary64 s.ld s.n goal) }
 {
     let mut on = m;

@@ -16,8 +16,8 @@ invariant-loop-on g l =
     (length l.t ≡ length l.initial.t)
     × (length l.u ≡ length l.initial.u)
     × (l.on.here + rows l.on.block ≤ l.s.n)
-    × (l.on.counts.swaps + 12 * l.on.here ≤ 12 * l.s.n)
-    × (l.on.counts.declined + 12 * l.on.here ≤ 12 * l.s.n)
+    × (l.on.counts.swaps ≤ 12 * (l.s.n - l.on.here))
+    × (l.on.counts.declined ≤ 12 * (l.s.n - l.on.here))
     × ((v : List Float) (M : Move.Moving) → Stands l.s v l.initial.t l.initial.u l.initial.on M
     → Left (λ (i : ℕ). walk_up k i binary64 l.s.ld l.s.n l.goal) (l.on.here - l.goal) l.s v l.t l.u l.on (walk_up k l.s.n binary64 l.s.ld l.s.n l.goal M))
 
