@@ -10,7 +10,7 @@ use Rattle.replay.specs.Table.{shown}
 
 -- ---- a line
 
--- the call that a line names, and what its words show of it: the first is the line's index, and what has none is no line
+-- the call that a line names, and what its words show of it: the first is the line's index; what has none is no line
 unfoldable pub shown_by : Option Call → Read → Option (Call × Outcome)
 shown_by (Some call) r =
     option_and_then (λ n. cond (eqb n 0) None (Some (call, shown call (take (n - 1) (drop 1 r.out))))) r.found

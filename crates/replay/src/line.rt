@@ -22,7 +22,8 @@ fn told(end: usize, outcome: Outcome) -> Option<usize>
     (outcome == Outcome::Differs).then_some(end + 17)
 }
 
-// The room for a line's words, lent and of any length, and the counts. The methods keep the room (`same_room`).
+// The room for a line's words, lent and of any length, and the counts. `same_room` says that a method leaves the desk
+// the room it was lent.
 #[derive(Drop)]
 pub struct Desk<'a> {
     pub room: &'a mut [u64],

@@ -14,7 +14,8 @@ fn square(a: u64, c: u64, b: u64, d: u64) -> [[f64; 2]; 2]
     [[float_of(a), float_of(b)], [float_of(c), float_of(d)]]
 }
 
-// a b c d; a b c d re1 im1 re2 im2 cs sn.
+// a b c d; a b c d re1 im1 re2 im2 cs sn. Word by word, as `lasy2`: a pattern of all words turns away a line of another
+// length, which `are_words` on the words after the `;` would take for one that differs.
 #[tactic(auto, unfolding(crate::specs::Lines::is_block, crate::specs::Lines::is_values))]
 pub fn lahqr_schur22(w: &[u64]) -> Outcome
     ensures { result ≡ Lines.lahqr_schur22 w.now }

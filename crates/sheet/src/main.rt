@@ -25,8 +25,8 @@ fn read_full(input: &mut impl Read, buf: &mut [u8]) -> usize
     done
 }
 
-// There is room for any sheet, so that `sheet` answers how long it is. A write that fails ends the program with its
-// error.
+// There is room for any sheet, and nothing here allocates, so that `sheet` answers how long it is. A write that fails
+// ends the program with its error.
 fn main(rt: HostRuntime) -> io::Result<()> {
     let mut text = [0; TEXT_ROOM];
     let n = read_full(&mut rt.stdin(), &mut text);
