@@ -9,19 +9,18 @@ ghost use Rattle.swaps.specs.Lines.{Inside, change_at};
 use crate::kernels::Kernel;
 use form::shape::Shape;
 
-// The numbers at N places changed. Arrays are filled by index, here and below, for the reason that stands at `Window`;
-// t is too, as places are indices, and of a zip of places and y a proof would know pairs, not how many are done.
+// The numbers at N places changed. Arrays are filled by index, here and below, for the reason that stands at `Window`.
 fn change<const N: usize, K: Kernel<N>>(t: &mut [f64], k: K, places: [usize; N])
     requires { Inside N places (length t.old) }
     ensures { t.new ≡ change_at N (K.gives k) (λ (m : ℕ). get_or places.entry m 0) t.old }
 {
     let mut x = [0.0; N];
-    for m in 0..N {
-        x[m] = t[places[m]];
+    for (m, place) in places.iter().enumerate() {
+        x[m] = t[*place];
     }
     let y = k.apply(x);
-    for m in 0..N {
-        t[places[m]] = y[m];
+    for (m, place) in places.iter().enumerate() {
+        t[*place] = y[m];
     }
 }
 
@@ -35,8 +34,8 @@ fn on_rows<const N: usize, K: Kernel<N>>(s: Shape, t: &mut [f64], k: K, rows: [u
 {
     for c in j..s.n {
         let mut places = rows;
-        for m in 0..N {
-            places[m] = s.place(rows[m], c);
+        for (m, row) in rows.iter().enumerate() {
+            places[m] = s.place(*row, c);
         }
         change(t, k, places);
     }
@@ -56,8 +55,8 @@ fn on_columns<const N: usize, K: Kernel<N>>(
 {
     for i in 0..count {
         let mut places = columns;
-        for m in 0..N {
-            places[m] = s.place(i, columns[m]);
+        for (m, column) in columns.iter().enumerate() {
+            places[m] = s.place(i, *column);
         }
         change(t, k, places);
     }

@@ -7,7 +7,7 @@ use Rattle.swaps.proofs.Windows.{Filled}
 use Rattle.swaps.proofs.operations.change.Given as goal
 
 abbrev pub invariant-loop-m : goal.invariant-loop-m
-invariant-loop-m g l = Filled g.row.N (λ (k : ℕ). at l.t (get_or l.places k 0)) nan l.m l.x
+invariant-loop-m g l = Filled g.row.N (λ (k : ℕ). at l.t (get_or l.fn.places k 0)) nan l.m l.x
 
 abbrev pub invariant-loop-m-2 : goal.invariant-loop-m-2
-invariant-loop-m-2 g l = l.t ≡ put_at l.m (λ (k : ℕ). get_or l.places k 0) l.y l.initial.t
+invariant-loop-m-2 g l = l.t ≡ put_at l.m (λ (k : ℕ). get_or l.fn.places k 0) l.y l.initial.t

@@ -11,4 +11,4 @@ invariant-loop-i g l =
     × (l.t ≡ change_run g.row.N (g.K.Kernel.gives l.k) 1 l.i 0 (λ (m : ℕ). place l.s.ld 0 (get_or l.columns m 0)) l.initial.t)
 
 abbrev pub invariant-loop-m : goal.invariant-loop-m
-invariant-loop-m g l = Filled g.row.N (λ (m : ℕ). place l.s.ld l.i (get_or l.columns m 0)) 0 l.m l.places
+invariant-loop-m g l = Filled g.row.N (λ (m : ℕ). place l.s.ld l.i (get_or l.fn.columns m 0)) 0 l.m l.places

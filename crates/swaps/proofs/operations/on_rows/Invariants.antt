@@ -11,4 +11,4 @@ invariant-loop-c g l =
     × (l.t ≡ change_run g.row.N (g.K.Kernel.gives l.k) l.s.ld (l.c - l.j) 0 (λ (m : ℕ). place l.s.ld (get_or l.rows m 0) l.j) l.initial.t)
 
 abbrev pub invariant-loop-m : goal.invariant-loop-m
-invariant-loop-m g l = Filled g.row.N (λ (m : ℕ). place l.s.ld (get_or l.rows m 0) l.c) 0 l.m l.places
+invariant-loop-m g l = Filled g.row.N (λ (m : ℕ). place l.s.ld (get_or l.fn.rows m 0) l.c) 0 l.m l.places
