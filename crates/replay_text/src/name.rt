@@ -123,6 +123,7 @@ pub fn name_end(line: &[u8]) -> usize
 }
 
 // A name with spaces after it; too many bytes are no name.
+#[tactic(auto, unfolding(crate::specs::Names::padded))]
 fn padded(name: &[u8]) -> Option<[u8; 28]>
     ensures { result ≡ Names.padded name.now }
 {
@@ -136,6 +137,7 @@ fn padded(name: &[u8]) -> Option<[u8; 28]>
 
 // The call of the name that a line begins with. A `TryFrom<&[u8]>` would need a type of error, which the one caller
 // would turn back into None.
+#[tactic(auto, unfolding(crate::specs::Names::call_named, crate::specs::Names::call_of))]
 pub fn call_named(name: &[u8]) -> Option<Call>
     ensures { result ≡ Names.call_named name.now }
 {

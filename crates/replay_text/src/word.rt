@@ -6,6 +6,7 @@ ghost use Rattle.replay_text.specs.Text.{word_at, words_of};
 use bits::hex::digit;
 
 // The word of a space and 16 digits.
+#[tactic(auto, unfolding(crate::specs::Text::word_at))]
 fn word(place: &[u8]) -> Option<u64>
     requires { length place.now ≡ 17 }
     ensures { result ≡ word_at place.now 0 }
@@ -23,6 +24,7 @@ fn word(place: &[u8]) -> Option<u64>
 // The words from a place of the line to its end, written to `out`. More words than `out` has room for are malformed;
 // the words before what is malformed are written. By index: of an `out` that `iter_mut().zip(places)` fills, a proof
 // knows only the length.
+#[tactic(auto, unfolding(crate::specs::Text::words_of))]
 pub fn words(s: &[u8], from: usize, out: &mut [u64]) -> Option<usize>
     ensures { (record { found = result; out = out.new }) ≡ words_of s.now from out.old }
 {

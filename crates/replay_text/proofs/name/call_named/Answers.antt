@@ -7,10 +7,6 @@ use Rattle.std.proofs.lemmas.Iterator.Search.{find_from_yields_List}
 use Rattle.replay_text.specs.Names.{name_of, all, call_of, call_named}
 use Rattle.replay_text.proofs.name.call_named.Goals as goal
 
-pub returns-in_err-whole : goal.returns-in_err-whole
-unfolding call_named
-returns-in_err-whole c = c.from_residual.ensures ∙ sym (ap (option_and_then call_of) (sym c.padded.ensures ∙ c.in_err-whole.was))
-
 pub returns : goal.returns
 unfolding call_named call_of
 returns c =

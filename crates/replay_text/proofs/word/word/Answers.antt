@@ -1,6 +1,6 @@
 -- `replay_text::word::word` meets its contract. The invariant: the digits that are left, after the word so far, give the whole word. Assumes nothing.
-use Rattle.std.proofs.Common.{◌≡◌, ℕ, ◌+◌, ◌-◌, ◌*◌, ◌<◌, ◌≤◌, List, length, get_or, sym, ◌∙◌, arith, eq-eqb, ne_eqb, Option, Some, None, take, drop}
-use Rattle.std.proofs.lemmas.List.{get_or-drop, get_or-take, length-take, length-drop}
+use Rattle.std.proofs.Common.{◌≡◌, ℕ, ◌+◌, ◌-◌, ◌*◌, ◌<◌, List, length, get_or, sym, ◌∙◌, arith, eq-eqb, Option, Some, None, take, drop}
+use Rattle.std.proofs.lemmas.List.{get_or-drop, get_or-take}
 use Rattle.bits.specs.Hex.{digit_of}
 use Rattle.bits.proofs.Digits.{grow, room}
 use Rattle.replay_text.specs.Text.{digits_from, word_at}
@@ -20,18 +20,10 @@ module _ (s : List ℕ) (i w : ℕ) (inside : i < 16) where
   unfolding digits_from
   more d h = let e : 1 + (i + 1) ≡ 1 + i + 1 = omega arith in rw (left 16 i inside, h, e)
 
-none : (s : List ℕ) (i w : ℕ) → 16 ≤ i → Some w ≡ digits_from s (16 - i) (1 + i) w
-unfolding digits_from
-none s i w h = let e : 16 - i ≡ 0 = omega arith in rw e
-
 -- where a place begins with a space
 digits : (s : List ℕ) (r : Option ℕ) → length s ≡ 17 → get_or s 0 0 ≡ 32 → r ≡ digits_from s 16 1 0 → r ≡ word_at s 0
 unfolding word_at
 digits s r h g e = rw (h, eq-eqb _ _ g) e
-
-pub returns-then-place-ne32 : goal.returns-then-place-ne32
-unfolding word_at
-returns-then-place-ne32 c = rw (c.requires, ne_eqb _ _ c.if-place-ne32.true)
 
 pub overflow_mul-word : goal.overflow_mul-word
 overflow_mul-word c = omega (arith, room c.loop-b.b-index c.loop-b.word 0)
@@ -54,9 +46,3 @@ loop-b-preserved c =
     let h : i < 16 = omega (arith, c.requires) in
     let e : digit_of (get_or s (1 + i) 0) ≡ Some c.in_ok-word.field-0 = rw (← digit_at s i 0 h c.requires) (sym c.digit.ensures.value ∙ c.in_ok-word.was) in
     (grow _ _ _ c.loop-b.invariant.0 c.in_ok-word.ensures.below, more s i c.loop-b.word h _ e ∙ c.loop-b.invariant.1)
-
-pub returns : goal.returns
-returns c =
-    let s = c.args.place.now in
-    let h : 16 ≤ c.loop-b.b-index = omega (arith, c.requires, simp (length-take, length-drop) at c.loop-b-test.false) in
-    digits s _ c.requires c.if-place-ne32.false (none s c.loop-b.b-index _ h ∙ c.loop-b.invariant.1)

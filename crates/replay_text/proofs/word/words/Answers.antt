@@ -1,22 +1,7 @@
 -- `replay_text::word::words` meets its contract. The invariant: the words from the place on, after those that `out` holds, are all words. Assumes nothing.
-use Rattle.std.proofs.Common.{◌≡◌, ◌+◌, ◌-◌, ◌*◌, ◌/◌, ◌<◌, length, sym, ◌∙◌, arith, rules, length-set, lt-ltb}
-use Rattle.replay_text.specs.Text.{words_of}
-use Rattle.replay_text.proofs.Places.{place_within, place_word, begun, full, bad, more, last}
+use Rattle.std.proofs.Common.{◌≡◌, ◌+◌, ◌-◌, ◌*◌, ◌/◌, ◌<◌, length, sym, ◌∙◌, arith, rules, length-set}
+use Rattle.replay_text.proofs.Places.{place_within, place_word, bad, more, last}
 use Rattle.replay_text.proofs.word.words.Goals as goal
-
-pub returns-in_err-get : goal.returns-in_err-get
-unfolding words_of
-returns-in_err-get c =
-    let h : length c.args.s.now < c.args.from = grind (arith, c.in_err-get.ensures.lookup) in
-    rw (c.from_residual.ensures, lt-ltb _ _ h)
-
-pub loop-n-init : goal.loop-n-init
-loop-n-init c = (omega arith, search rules, begun _ _ _ c.in_ok-get.ensures.lookup.0.0)
-
-pub returns-then-n-out : goal.returns-then-n-out
-returns-then-n-out c =
-    let in_line = place_within c.args.s.now _ _ c.args.from c.loop-n.n c.in_ok-get.ensures.lookup.0.2 c.in_ok-get.ensures.lookup.0.3 c.as_chunks.ensures.front (omega (arith, c.as_chunks.ensures.front_len)) in
-    sym (full _ _ _ _ (omega (arith, in_line)) c.if-n-out.true) ∙ c.loop-n.invariant.2
 
 pub returns-in_err-out : goal.returns-in_err-out
 returns-in_err-out c =
