@@ -5,11 +5,10 @@ use Prim.Native.Nat.{ℕ, zero, suc, ◌+◌, ◌-◌, ◌≤◌, ◌<◌}
 use native.Mathlib.Nat.{add-sub_cancel_left}
 use native.Mathlib.Omega.{arith}
 use lib.ListN.{length, take, drop, set, length-map}
-use native.Mathlib.Numerals.{add-one}
-use lib.Seq.{drop-drop, drop-cons, take-suc, take-suc-set, set-append_seam}
+use lib.Seq.{drop-drop, drop-cons, take-suc-set}
 use lib.Ieee.{Float, binary64, nan, neg, mul}
 use Rattle.std.proofs.Common.{map, append_assoc}
-use Rattle.std.proofs.lemmas.List.{drop-set-lt, drop-set-add, take-set-le, set-append_right, take-append-drop, take_at, drop_at, map-append, length-append, length-take-le, length-drop, length-set}
+use Rattle.std.proofs.lemmas.List.{drop-set-lt, drop-set-add, take-set-le, set-append_right, take-append-drop, take_at, drop_at, length-append, length-take-le, length-drop, length-set}
 use Rattle.model.specs.Form.{at}
 use Rattle.model.specs.Vectors.{Start, on_part, negated_run, scaled_runs}
 
@@ -107,10 +106,3 @@ scaled_back ld t v y z s p r k q h l m d e =
     let runs = scaled ld t s p k 0 v h a b in
     let w = take p v ++ (y ++ drop (p + k - p) (drop p v)) in
     rw (drop-drop (r + k - r) r w, drop-drop (p + k - p) p v, d, e, add-sub_cancel_left p k, add-sub_cancel_left r k, q) (sym (rw o at runs))
-
--- ---- a list filled from another, one number more
-pub filled : (g : Float → Float) (xs o : List Float) (i : ℕ) (v : Float) → i < length xs → length xs ≡ length o → v ≡ g (at xs i) → set (map g (take i xs) ++ drop i o) i v ≡ map g (take (i + 1) xs) ++ drop (i + 1) o
-filled g xs o i v h l e =
-    let n : length (map g (take i xs)) ≡ i = length-map (take i xs) g ∙ length-take-le i xs (omega arith) in
-    rw (add-one i, drop-cons o i nan (omega arith), take-suc xs i nan h, map-append, e, append_assoc)
-    (rw n at (set-append_seam (map g (take i xs)) (at o i) (drop (suc i) o) (g (at xs i))))

@@ -1,5 +1,5 @@
 // The vectors of a form: evd_from_real_schur.
-ghost use Rattle.std.specs.Prelude.{◌≡◌, ◌+◌, ◌*◌, ◌<◌, ◌≤◌, length, fold, map, Float};
+ghost use Rattle.std.specs.Prelude.{◌≡◌, ◌+◌, ◌*◌, ◌<◌, ◌≤◌, length, fold, Float};
 ghost use Rattle.std.specs.Float.{binary64};
 ghost use Rattle.std.specs.Float.Ieee.{add};
 ghost use Rattle.model.specs.Arith as Arith;
@@ -10,6 +10,7 @@ ghost use Rattle.form.specs.Shaped.{Holds};
 ghost use Rattle.evd.specs.View.{start};
 
 use arith::real::{abs, abs1};
+use bits::fill::fill;
 use form::deep::quasi_triangular;
 use form::shape::Shape;
 use refusal::Refusal;
@@ -39,17 +40,6 @@ fn form_norm(s: Shape, t: &[f64]) -> f64
         norm = add_magnitudes(&t[top..top + s.n.min(j + 2)], norm);
     }
     norm
-}
-
-// What f makes of each number of `from`, in `to`. By index there: of a loop over iter_mut and zip, a proof knows only
-// the length of what is filled. The test programs fill from words, by `bits`, on which no call rests.
-fn fill<F: Fn(f64) -> f64>(to: &mut [f64], from: &[f64], f: F)
-    requires { F.IsAlwaysCallable f × (length from.now ≡ length to.old) }
-    ensures { (g : Float → Float) → ((x y : Float) → F.post f x y → y ≡ g x) → to.new ≡ map g from.now }
-{
-    for (i, &x) in from.iter().enumerate() {
-        to[i] = f(x);
-    }
 }
 
 // The two diagonal numbers of a 2-block's columns.
