@@ -4,7 +4,6 @@ use Prim.Native.Nat.{ℕ, ◌+◌, ◌-◌, ◌<◌}
 use native.Mathlib.Omega.{arith}
 use mathlib.Core.Bool.{Bool, true, false, ◌&&◌, cond}
 use mathlib.Core.List.{List, []}
-use mathlib.Core.Logic.{◌⊎◌, inl, inr}
 use lib.Dec.{eqb}
 use lib.ListN.{length}
 use lib.Ieee.{Float, binary64}
@@ -79,10 +78,6 @@ pub landed : (row : ℕ) {s : Shape} {t u : List Float} {a r : Moving} → ((u�
 landed row f u₀ M a = record { stopped = refl; stands = f u₀ _ M a }
 
 -- ---- what is moved, parted or not
-pub not_parted : {b : Block} → (b ≡ One) ⊎ (b ≡ Two) → (eqb (number b) 3 ≡ false) × (rows b ≡ number b)
-not_parted (inl e) = rw e (refl, refl)
-not_parted (inr e) = rw e (refl, refl)
-
 pub not_two : (b : Block) → (b ≡ Two → ⊥) → eqb (number b) 2 ≡ false
 not_two One h = refl
 not_two Two h = absurd (h refl)
@@ -90,12 +85,6 @@ not_two Parted h = refl
 
 -- ---- where a step of model's goes by cases
 module _ {s : Shape} {t u t₁ u₁ : List Float} {m : Moving} {r : Result Moving Moving} (P Q : Move.Moving → Stopping.Going) where
-  pub is_parted : m.block ≡ Parted → Takes s t u m t₁ u₁ r P → Takes s t u m t₁ u₁ r (λ (M : Move.Moving). cond (eqb M.nbf 3) (P M) (Q M))
-  is_parted e f u₀ M a = stood_as (rw (← a.nbf, e)) (f u₀ M a)
-
-  pub is_block : eqb (number m.block) 3 ≡ false → Takes s t u m t₁ u₁ r Q → Takes s t u m t₁ u₁ r (λ (M : Move.Moving). cond (eqb M.nbf 3) (P M) (Q M))
-  is_block e f u₀ M a = stood_as (rw (← a.nbf, e)) (f u₀ M a)
-
   pub is_one : (next : ℕ) → next ≡ 1 → Takes s t u m t₁ u₁ r P → Takes s t u m t₁ u₁ r (λ (M : Move.Moving). cond (eqb next 1) (P M) (Q M))
   is_one next e f u₀ M a = stood_as (rw e) (f u₀ M a)
 

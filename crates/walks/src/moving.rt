@@ -175,6 +175,7 @@ fn apart_down<K: Kind>(s: Shape, t: &mut [f64], u: &mut [f64], m: Moving) -> Res
 }
 
 // One step down.
+#[tactic(auto, unfolding(model::specs::Stopping::step_down))]
 pub(crate) fn step_down<K: Kind>(
     s: Shape,
     t: &mut [f64],
@@ -238,6 +239,7 @@ fn apart_up<K: Kind>(s: Shape, t: &mut [f64], u: &mut [f64], m: Moving) -> Resul
 }
 
 // One step up.
+#[tactic(auto, unfolding(model::specs::Stopping::step_up))]
 pub(crate) fn step_up<K: Kind>(
     s: Shape,
     t: &mut [f64],
