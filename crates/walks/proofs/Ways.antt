@@ -42,6 +42,10 @@ pub goes_on_lem : (G : Stopping.Going) (next : Move.Moving → Stopping.Going) �
 unfolding onward
 goes_on_lem G next e = rw e
 
+-- what `?` hands on is the Err that it was given
+pub as_err : {s : Shape} {t u t₁ u₁ : List Float} {m a : Moving} {q : Result Moving Moving} {P : Move.Moving → Stopping.Going} → q ≡ Err a → Takes s t u m t₁ u₁ (Err a) P → Takes s t u m t₁ u₁ q P
+as_err e f = rw e f
+
 module _ {s : Shape} {t u t₁ u₁ : List Float} {m a : Moving} {step : Move.Moving → Stopping.Going} (next : Move.Moving → Stopping.Going) where
   -- one that has stopped goes no further
   pub halts : Takes s t u m t₁ u₁ (Err a) step → Takes s t u m t₁ u₁ (Err a) (λ (M : Move.Moving). onward (step M) next)

@@ -1,18 +1,15 @@
 -- `walks::moving::apart_up` meets its contract. Assumes nothing.
-use mathlib.Core.Path.{◌≡◌}
-use Rattle.std.proofs.Common.{rules, Err}
-use Rattle.walks.proofs.Ways.{halts, follows, arrives, is_one, is_two, apart_up_is}
+use Rattle.std.proofs.Common.{rules}
+use Rattle.walks.proofs.Ways.{as_err, halts, follows, arrives, is_one, is_two, apart_up_is}
 use Rattle.walks.proofs.moving.apart_up.Goals as goal
 
 pub returns-in_err-above-clause-stands : goal.returns-in_err-above-clause-stands
 returns-in_err-above-clause-stands g c =
-    let x : c.from_residual.result ≡ Err c.in_err-above.field-0.0 = search rules in
-    rw x (apart_up_is _ c.size_above-next.ensures.0 (halts _ c.in_err-above.ensures.stands))
+    as_err (search rules) (apart_up_is _ c.size_above-next.ensures.0 (halts _ c.in_err-above.ensures.stands))
 
 pub returns-in_err-a-clause-stands : goal.returns-in_err-a-clause-stands
 returns-in_err-a-clause-stands g c =
-    let x : c.from_residual-in_err-a.result ≡ Err c.in_err-a.field-0.0 = search rules in
-    rw x (apart_up_is _ c.size_above-next.ensures.0 (follows _ c.in_ok-above.ensures.stands (is_one _ _ _ c.if-next-eq1.true (halts _ c.in_err-a.ensures.stands))))
+    as_err (search rules) (apart_up_is _ c.size_above-next.ensures.0 (follows _ c.in_ok-above.ensures.stands (is_one _ _ _ c.if-next-eq1.true (halts _ c.in_err-a.ensures.stands))))
 
 pub returns-then-next-eq1-clause-stands : goal.returns-then-next-eq1-clause-stands
 returns-then-next-eq1-clause-stands g c =

@@ -1,19 +1,17 @@
 -- `walks::moving::past_two_down` meets its contract. Assumes nothing.
-use mathlib.Core.Path.{◌≡◌, sym, ◌∙◌}
+use mathlib.Core.Path.{sym, ◌∙◌}
 use mathlib.Core.Bool.{true, false}
-use Rattle.std.proofs.Common.{rules, Err}
-use Rattle.walks.proofs.Ways.{halts, follows, arrives, past_two_down_is}
+use Rattle.std.proofs.Common.{rules}
+use Rattle.walks.proofs.Ways.{as_err, halts, follows, arrives, past_two_down_is}
 use Rattle.walks.proofs.moving.past_two_down.Goals as goal
 
 pub returns-in_err-a-clause-stands : goal.returns-in_err-a-clause-stands
 returns-in_err-a-clause-stands g c =
-    let x : c.from_residual.result ≡ Err c.in_err-a.field-0.0 = search rules in
-    rw x (past_two_down_is _ true (sym c.zero_below.ensures ∙ c.if-zero_below.true) (halts _ (halts _ c.in_err-a.ensures.stands)))
+    as_err (search rules) (past_two_down_is _ true (sym c.zero_below.ensures ∙ c.if-zero_below.true) (halts _ (halts _ c.in_err-a.ensures.stands)))
 
 pub returns-in_err-b-clause-stands : goal.returns-in_err-b-clause-stands
 returns-in_err-b-clause-stands g c =
-    let x : c.from_residual-in_err-b.result ≡ Err c.in_err-b.field-0.0 = search rules in
-    rw x (past_two_down_is _ true (sym c.zero_below.ensures ∙ c.if-zero_below.true) (halts _ (follows _ c.in_ok-a.ensures.stands c.in_err-b.ensures.stands)))
+    as_err (search rules) (past_two_down_is _ true (sym c.zero_below.ensures ∙ c.if-zero_below.true) (halts _ (follows _ c.in_ok-a.ensures.stands c.in_err-b.ensures.stands)))
 
 pub returns-then-zero_below-clause-stands : goal.returns-then-zero_below-clause-stands
 returns-then-zero_below-clause-stands g c =
@@ -21,8 +19,7 @@ returns-then-zero_below-clause-stands g c =
 
 pub returns-in_err-a-2-clause-stands : goal.returns-in_err-a-2-clause-stands
 returns-in_err-a-2-clause-stands g c =
-    let x : c.from_residual-in_err-a-2.result ≡ Err c.in_err-a-2.field-0.0 = search rules in
-    rw x (past_two_down_is _ false (sym c.zero_below.ensures ∙ c.if-zero_below.false) (halts _ c.in_err-a-2.ensures.stands))
+    as_err (search rules) (past_two_down_is _ false (sym c.zero_below.ensures ∙ c.if-zero_below.false) (halts _ c.in_err-a-2.ensures.stands))
 
 pub returns-clause-stands : goal.returns-clause-stands
 returns-clause-stands g c =

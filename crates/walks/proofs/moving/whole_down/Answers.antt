@@ -1,13 +1,11 @@
 -- `walks::moving::whole_down` meets its contract. Assumes nothing.
-use mathlib.Core.Path.{◌≡◌}
-use Rattle.std.proofs.Common.{rules, Err}
-use Rattle.walks.proofs.Ways.{halts, follows, landed, whole_down-is}
+use Rattle.std.proofs.Common.{rules}
+use Rattle.walks.proofs.Ways.{as_err, halts, follows, landed, whole_down-is}
 use Rattle.walks.proofs.moving.whole_down.Goals as goal
 
 pub returns-in_err-e-clause-stands : goal.returns-in_err-e-clause-stands
 returns-in_err-e-clause-stands g c =
-    let x : c.from_residual.result ≡ Err c.in_err-e.field-0.0 = search rules in
-    rw x (whole_down-is _ _ (rw (c.rows-rows.ensures, c.requires.3)) c.size_at-next.ensures.0 (halts _ c.in_err-e.ensures.stands))
+    as_err (search rules) (whole_down-is _ _ (rw (c.rows-rows.ensures, c.requires.3)) c.size_at-next.ensures.0 (halts _ c.in_err-e.ensures.stands))
 
 pub returns-clause-stands : goal.returns-clause-stands
 returns-clause-stands g c =
