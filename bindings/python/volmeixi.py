@@ -12,6 +12,10 @@ What a call only reads may also be a list, read-only, in C order or with gaps. A
 makes have no gaps; they are NumPy's where the form is, and array('d') otherwise. A call that is
 turned away raises Refusal and has changed no buffer.
 
+What a call gives back can be sent to any call again: after any moves and exchanges an accepted form
+is accepted, so that a later call is turned away for its own arguments alone. The form and the
+results are the same with a factor of any content and with none.
+
 A form, factor or vectors may stand in the corner of a larger array. What stands beside them has no
 say in a result and stays as it is.
 

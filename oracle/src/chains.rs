@@ -1,28 +1,52 @@
 //! Chains of moves, moves that stop and exchanges, each on the form as the call before left it: the
-//! Rust beside the archive, and what Note 13 of document 02 says of the Rust itself.
+//! Rust beside the archive, and what Note 13 of document 02 says of the Rust itself. And chains of
+//! sheets: each request has the lines of the form and the factor as the sheet before printed them.
 
 use crate::compare::{self, Plan, SHOWN};
 use crate::generate::{self, Sizes, rng::Rng};
 use crate::progress::Progress;
 use crate::record::Record;
 use crate::tally::Tally;
-use crate::{archive, calls, refuse, stride};
+use crate::{archive, calls, refuse, sheet, stride};
 use std::collections::BTreeMap;
-use std::io;
+use std::{fmt, io};
 
-/// The calls of a chain.
+/// The calls, or the sheets, of a chain.
 const LENGTH: u64 = 50;
 
 /// What was met, by call.
 type Met = BTreeMap<&'static str, Tally>;
 
-/// True if nothing differed.
+/// True if nothing differed: of the calls on the archive, or of the sheets of a program.
 pub fn run(plan: &Plan) -> io::Result<bool> {
-    archive::linked()?;
-    let (mut met, mut differing) = (Met::default(), 0);
+    match &plan.sheet {
+        Some(program) => {
+            let mut met = Sheets::default();
+            let (differing, seconds) = each(plan, |index| {
+                sheets(plan.seed, index, plan.sizes, |text| compare::printed(program, text), &mut met)
+            })?;
+            println!("{} chains, {met} in {seconds} s, differences: {differing}", plan.count);
+            Ok(differing == 0)
+        }
+        None => {
+            archive::linked()?;
+            let mut met = Met::default();
+            let one = |index| chain(plan.seed, index, plan.sizes, archive::unsettled, &mut met);
+            let (differing, seconds) = each(plan, one)?;
+            met.iter().for_each(|(name, tally)| println!("{name}: {tally}"));
+            let calls: u64 = met.values().map(|tally| tally.cases).sum();
+            println!("{} chains, {calls} calls in {seconds} s, differences: {differing}", plan.count);
+            Ok(differing == 0)
+        }
+    }
+}
+
+/// Each chain of the plan: how many had something wrong, of which the first are shown, and the seconds.
+fn each(plan: &Plan, mut chain: impl FnMut(u64) -> io::Result<Option<String>>) -> io::Result<(u64, u64)> {
+    let mut differing = 0;
     let mut progress = Progress::new(plan.count);
     for index in 0..plan.count {
-        if let Some(found) = chain(plan.seed, index, plan.sizes, archive::unsettled, &mut met)? {
+        if let Some(found) = chain(index)? {
             differing += 1;
             if differing <= SHOWN {
                 progress.wipe();
@@ -32,10 +56,7 @@ pub fn run(plan: &Plan) -> io::Result<bool> {
         progress.step(|| format!("chains: {} of {}, {differing} differ", index + 1, plan.count));
     }
     progress.wipe();
-    met.iter().for_each(|(name, tally)| println!("{name}: {tally}"));
-    let calls: u64 = met.values().map(|tally| tally.cases).sum();
-    println!("{} chains, {calls} calls in {} s, differences: {differing}", plan.count, progress.seconds());
-    Ok(differing == 0)
+    Ok((differing, progress.seconds()))
 }
 
 /// A chain up to its end, or to the first call at which something is wrong: then this call, and what.
@@ -64,6 +85,61 @@ fn chain(
         }
         form = ours.l("t").to_vec();
         last = case.list_set("t", rust.l("t").to_vec());
+    }
+    Ok(None)
+}
+
+/// What chains of sheets met.
+#[derive(Default)]
+struct Sheets {
+    sheets: u64,
+    accepted: u64,
+    with_nan: u64,
+    with_factor: u64,
+    declined: u64,
+}
+
+impl fmt::Display for Sheets {
+    fn fmt(&self, out: &mut fmt::Formatter) -> fmt::Result {
+        let Sheets { sheets, accepted, with_nan, with_factor, declined } = self;
+        write!(out, "{sheets} sheets, {accepted} of them accepted, {with_nan} with a NaN, ")?;
+        write!(out, "{with_factor} with a factor, {declined} with a decline,")
+    }
+}
+
+/// A chain of sheets up to its end, or to the first that is not what the Rust's moves of the numbers
+/// themselves give: then its request, and both. One request in eight names a row that is not there.
+fn sheets(
+    seed: u64,
+    index: u64,
+    sizes: Sizes,
+    program: impl Fn(&[u8]) -> io::Result<Vec<u8>>,
+    met: &mut Sheets,
+) -> io::Result<Option<String>> {
+    let rng = &mut Rng::new(seed, "sheets", index);
+    let (least, most) = (sizes.least.min(sheet::MOST_ROWS), sizes.most.min(sheet::MOST_ROWS));
+    let (n, mut t, mut u) = generate::sheets(rng, Sizes { least, most });
+    let mut lines = sheet::lines(&t, &u);
+    for _ in 0..LENGTH {
+        let (mut from, to) = (rng.below(n), rng.below(n));
+        if rng.one_in(8) {
+            from = n + rng.below(10_000 - n);
+        }
+        let text = format!("n={n}\nfrom={from}\nto={to}\n{lines}");
+        let wanted = if from < n { sheet::moved(n, &mut t, &mut u, from, to) } else { "answer=7\n".to_string() };
+        let printed = program(text.as_bytes())?;
+        if printed != wanted.as_bytes() {
+            let printed = String::from_utf8_lossy(&printed).into_owned();
+            return Ok(Some(format!("{text}  prints\n{printed}  and not\n{wanted}")));
+        }
+        met.sheets += 1;
+        if let Some(place) = wanted.find("t=") {
+            met.accepted += 1;
+            met.with_nan += u64::from(t.iter().any(|x| x.is_nan()));
+            met.with_factor += u64::from(!u.is_empty());
+            met.declined += u64::from(!wanted.contains("\ndeclined=0\n"));
+            lines = wanted[place..].to_string();
+        }
     }
     Ok(None)
 }
@@ -130,6 +206,33 @@ mod tests {
             let stops = if call.contains("stopping") { &stops[..] } else { &[] };
             stops.iter().chain(&forms).for_each(|class| assert!(tally.classes[class] > 0, "{call}: {tally}"));
         }
+    }
+
+    /// The Rust's sheets alone: nothing is wrong, and all that a chain of sheets may meet is met.
+    #[test]
+    fn the_rust_takes_back_its_sheets() {
+        let mut met = Sheets::default();
+        for index in 0..100 {
+            assert_eq!(sheets(5, index, USUAL, |text| Ok(sheet::run(text)), &mut met).unwrap(), None);
+        }
+        assert_eq!(met.sheets, 100 * LENGTH);
+        let Sheets { accepted, with_nan, with_factor, declined, .. } = met;
+        assert!([accepted, with_nan, with_factor, declined].iter().all(|count| *count > 0), "{met}");
+        assert!(accepted < met.sheets && with_nan < accepted && with_factor < accepted, "{met}");
+    }
+
+    /// A program that forgets a zero's sign, or gives another number, is found.
+    #[test]
+    fn a_wrong_sheet_is_told() {
+        let without_signs = |text: &[u8]| {
+            let right = String::from_utf8(sheet::run(text)).unwrap();
+            Ok(right.replace("8000000000000000", "0000000000000000").into_bytes())
+        };
+        let always_2 = |_: &[u8]| Ok(b"answer=2\n".to_vec());
+        let found = |index| sheets(5, index, USUAL, without_signs, &mut Sheets::default()).unwrap();
+        assert!((0..20).any(|index| found(index).is_some()));
+        let told = sheets(5, 0, USUAL, always_2, &mut Sheets::default()).unwrap().unwrap();
+        assert!(told.contains("prints\nanswer=2\n"), "{told}");
     }
 
     /// Each check finds what it is for, and a chain ends there.

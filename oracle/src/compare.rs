@@ -121,7 +121,7 @@ fn other_side(plan: &Plan, case: &Record) -> io::Result<Option<Record>> {
 }
 
 /// What a program prints for a text on its standard input.
-fn printed(program: &str, text: &[u8]) -> io::Result<Vec<u8>> {
+pub fn printed(program: &str, text: &[u8]) -> io::Result<Vec<u8>> {
     let mut child = Command::new(program).stdin(Stdio::piped()).stdout(Stdio::piped()).spawn()?;
     // A program may stop reading a text that is too long: the pipe is then closed, which is no fault.
     let _ = child.stdin.take().expect("piped").write_all(text);

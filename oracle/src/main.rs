@@ -44,7 +44,7 @@ oracle sheet < text
 oracle generate CALL|all COUNT SEED [--n-min N] [--n-max N]
 oracle compare CALL|all COUNT SEED [--n-min N] [--n-max N] [--sheet PROGRAM]
 oracle scale [SEED] [--each]
-oracle chains COUNT SEED [--n-min N] [--n-max N]
+oracle chains COUNT SEED [--n-min N] [--n-max N] [--sheet PROGRAM]
 oracle replay < cases
 oracle vectors CALL...|all [--classes] [--random N]";
 
@@ -61,7 +61,7 @@ fn main() -> ExitCode {
         ["compare", call, count, seed, ref options @ ..] => {
             plan(call, count, seed, options).and_then(|p| compare::run(&p))
         }
-        ["chains", count, seed, ref options @ ..] if !options.contains(&"--sheet") => {
+        ["chains", count, seed, ref options @ ..] => {
             plan("all", count, seed, options).and_then(|p| chains::run(&p))
         }
         ["scale"] => scale::run(scale::SEED, false),

@@ -5,7 +5,8 @@ use crate::record::settle;
 use crate::refuse;
 
 const MOST_BYTES: usize = 40_000;
-const MOST_ROWS: usize = 32;
+/// A request has no more rows.
+pub const MOST_ROWS: usize = 32;
 
 /// What the five lines say.
 struct Sheet {
@@ -27,9 +28,19 @@ pub fn run(text: &[u8]) -> Vec<u8> {
 fn answer(sheet: Sheet) -> Result<String, usize> {
     let Sheet { n, from, to, mut t, mut u } = sheet;
     refuse::reorder(MOST_ROWS, n, &t, &u, from, to)?;
-    let notes = run_move(n, &mut t, &mut u, from, to);
+    Ok(moved(n, &mut t, &mut u, from, to))
+}
+
+/// The six lines of an accepted move, which is made on the form and the factor.
+pub fn moved(n: usize, t: &mut [f64], u: &mut [f64], from: usize, to: usize) -> String {
+    let notes = run_move(n, t, u, from, to);
     let counts = format!("answer=0\nlanded={}\nswaps={}\ndeclined={}\n", notes.here, notes.swaps, notes.declined);
-    Ok(format!("{counts}t={}\nu={}\n", words(&t), words(&u)))
+    counts + &lines(t, u)
+}
+
+/// The two lines of a form and a factor, the same in a request and in a sheet.
+pub fn lines(t: &[f64], u: &[f64]) -> String {
+    format!("t={}\nu={}\n", words(t), words(u))
 }
 
 fn words(numbers: &[f64]) -> String {

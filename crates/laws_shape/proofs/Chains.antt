@@ -1,27 +1,30 @@
 -- The claims on chains of calls. Assumes nothing.
 use mathlib.Core.Path.{◌≡◌, refl, ap, ap₂, ◌∙◌}
-use Prim.Native.Nat.{ℕ}
-use mathlib.Core.Bool.{Bool, true, false, cond}
+use Prim.Native.Nat.{ℕ, zero, suc, ◌+◌, ◌*◌}
+use mathlib.Core.Bool.{Bool, true, false, not, cond}
 use mathlib.Core.List.{List, [], ◌∷◌}
 use lib.Dec.{eqb}
+use lib.ListN.{length, length-set}
 use lib.Ieee.{Float, Format}
 use borrow.Author.Tests.{eqb-true}
 use Rattle.model.specs.Lines.{first_of}
-use Rattle.model.specs.Form.{line4}
+use Rattle.model.specs.Form.{nonzero_below, line2, line17, line3, line4, position}
 use Rattle.model.specs.Exchange.{Exchanged, exchange_line, exchange_call}
 use Rattle.model.specs.Move.{move_line, Moved, move_call}
 use Rattle.model.specs.Stopping.{Kind, goes_on, stopping, Stopped, stopping_call}
-use Rattle.model.specs.Values.{values_line}
-use Rattle.model.specs.Vectors.{vectors_line}
+use Rattle.model.specs.Values.{Reading, Parts, one_value, two_values, values_from, BlockValues, values_line, values_read}
+use Rattle.model.specs.Vectors.{vectors_line, evd_from_real_schur, column_line}
+use Rattle.laws.proofs.InOrder.{passed}
 use Rattle.laws_stride.proofs.Tests.{branch}
 use Rattle.laws_stride.proofs.Control.{call_by, move_is_call}
 use Rattle.laws_stride.proofs.Strides.{rows-beyond}
-use Rattle.laws_shape.specs.Chains.{Call, a_move, a_stop, an_exchange, Result, of_move, of_stop, of_exchange, called, form_after, answers_of, OwnLines, SentBack, factor_of, FactorSentBack, with_factor, with_factors, Lengths, SameWithout}
+use Rattle.laws_shape.specs.Chains.{Call, a_move, a_stop, an_exchange, Result, of_move, of_stop, of_exchange, called, form_after, answers_of, OwnLines, SentBack, factor_of, BuffersSentBack, NumbersStay, with_factor, with_factors, Lengths, SameWithout}
+use Rattle.laws_shape.proofs.Numbers.{either, Numbers, numbers-of, factor_numbers}
 use Rattle.laws_shape.proofs.Shape.{Shape, shape, accepted, no_line3, no_line5, no_line6}
 use Rattle.laws_shape.proofs.Exchanges.{Lawful, goes_on_lawful, stopping_lawful}
 use Rattle.laws_shape.proofs.Meets.{exchange-goes, walk_far}
 
--- ---- a call keeps the shape, turned away or not
+-- ---- a call keeps the shape, and the numbers those of the format, turned away or not
 
 by_line : {A : Type 0} (P : A → Type 0) (line : ℕ) (x y : A) → (line ≡ 0 → P x) → P y → P (cond (eqb line 0) x y)
 by_line P line x y h k = go (eqb line 0) refl
@@ -30,32 +33,45 @@ by_line P line x y h k = go (eqb line 0) refl
     go true e = h (eqb-true line 0 e)
     go false e = k
 
-module _ (f : Format) (ld n : ℕ) (t u : List Float) (s : Shape f ld n t) where
-  by_keeps : (k : Kind) → Lawful k f ld n → (from to : ℕ) → Shape f ld n (call_by k f ld n t u from to).form
-  unfolding call_by
-  by_keeps k L from to = by_line (λ (r : Stopped). Shape f ld n r.form) (move_line f ld n t u from to) _ _ (λ h. (walk_far k f ld n L t u from to h).shape) s
+-- what a form e keeps of an accepted form t
+record Back (f : Format) (ld n : ℕ) (t e : List Float) : Type 0 where
+  shape : Shape f ld n e
+  numbers : Numbers f t → Numbers f e
 
-  move_keeps : (from to : ℕ) → Shape f ld n (move_call f ld n t u from to).form
+module _ (f : Format) (ld n : ℕ) (t u : List Float) (s : Shape f ld n t) where
+  same : Back f ld n t t
+  same = record { shape = s; numbers = λ m. m }
+
+  by_keeps : (k : Kind) → Lawful k f ld n → (from to : ℕ) → Back f ld n t (call_by k f ld n t u from to).form
+  unfolding call_by
+  by_keeps k L from to =
+      by_line (λ (r : Stopped). Back f ld n t r.form) (move_line f ld n t u from to) _ _ (λ h. let w = walk_far k f ld n L t u from to h in record { shape = w.shape; numbers = w.numbers }) same
+
+  move_keeps : (from to : ℕ) → Back f ld n t (move_call f ld n t u from to).form
   move_keeps from to = rw (move_is_call f ld n t u from to) (by_keeps (goes_on f ld n) (goes_on_lawful f ld n) from to)
 
-  stopping_keeps : (from to : ℕ) → Shape f ld n (stopping_call f ld n t u from to).form
+  stopping_keeps : (from to : ℕ) → Back f ld n t (stopping_call f ld n t u from to).form
   unfolding stopping_call call_by
   stopping_keeps from to = by_keeps (stopping f ld n) (stopping_lawful f ld n) from to
 
-  exchange_keeps : (j n1 n2 : ℕ) → Shape f ld n (exchange_call f ld n t u j n1 n2).form
+  exchange_keeps : (j n1 n2 : ℕ) → Back f ld n t (exchange_call f ld n t u j n1 n2).form
   unfolding exchange_call
-  exchange_keeps j n1 n2 = by_line (λ (r : Exchanged). Shape f ld n r.form) (exchange_line f ld n t u j n1 n2) _ _ (λ h. (exchange-goes f ld n t u j n1 n2 h).kept.shape) s
+  exchange_keeps j n1 n2 =
+      by_line (λ (r : Exchanged). Back f ld n t r.form) (exchange_line f ld n t u j n1 n2) _ _ (λ h. let w = exchange-goes f ld n t u j n1 n2 h in record { shape = w.kept.shape; numbers = w.numbers }) same
 
-call_keeps : (f : Format) (ld n : ℕ) (t : List Float) (c : Call) → Shape f ld n t → Shape f ld n (called f ld n t c).form
+call_keeps : (f : Format) (ld n : ℕ) (t : List Float) (c : Call) → Shape f ld n t → Back f ld n t (called f ld n t c).form
 unfolding called
 call_keeps f ld n t (a_move from to u) s = move_keeps f ld n t u s from to
 call_keeps f ld n t (a_stop from to u) s = stopping_keeps f ld n t u s from to
 call_keeps f ld n t (an_exchange j n1 n2 u) s = exchange_keeps f ld n t u s j n1 n2
 
-chain_keeps : (f : Format) (ld n : ℕ) (cs : List Call) (t : List Float) → Shape f ld n t → Shape f ld n (form_after f ld n cs t)
+chain_keeps : (f : Format) (ld n : ℕ) (cs : List Call) (t : List Float) → Shape f ld n t → Back f ld n t (form_after f ld n cs t)
 unfolding form_after
-chain_keeps f ld n [] t s = s
-chain_keeps f ld n (c ∷ cs) t s = chain_keeps f ld n cs (called f ld n t c).form (call_keeps f ld n t c s)
+chain_keeps f ld n [] t s = same f ld n t [] s
+chain_keeps f ld n (c ∷ cs) t s =
+    let x = call_keeps f ld n t c s in
+    let y = chain_keeps f ld n cs (called f ld n t c).form x.shape in
+    record { shape = y.shape; numbers = λ m. y.numbers (x.numbers m) }
 
 -- ---- claim 1
 
@@ -72,14 +88,67 @@ own-lines f ld n t s =
 pub sent_back_lem : SentBack
 sent_back_lem f ld n t cs h =
     let e = form_after f ld n cs t in
-    let s = chain_keeps f ld n cs t (shape f ld n t h) in
+    let s = (chain_keeps f ld n cs t (shape f ld n t h)).shape in
     record { deep = no_line5 f ld n e s; touching = no_line6 f ld n e s; accepted = accepted f ld n e s; own = own-lines f ld n e s }
 
-pub factor-sent_back : FactorSentBack
+-- ---- the buffers
+
+factor_long : (f : Format) (ld n : ℕ) (t : List Float) (c : Call) → length (called f ld n t c).factor ≡ length (factor_of c)
 unfolding called factor_of
-factor-sent_back f ld n t (a_move from to u) = (rows-beyond.move_factor f ld n t u from to).size
-factor-sent_back f ld n t (a_stop from to u) = (rows-beyond.stopping_factor f ld n t u from to).size
-factor-sent_back f ld n t (an_exchange j n1 n2 u) = (rows-beyond.exchange_factor f ld n t u j n1 n2).size
+factor_long f ld n t (a_move from to u) = (rows-beyond.move_factor f ld n t u from to).size
+factor_long f ld n t (a_stop from to u) = (rows-beyond.stopping_factor f ld n t u from to).size
+factor_long f ld n t (an_exchange j n1 n2 u) = (rows-beyond.exchange_factor f ld n t u j n1 n2).size
+
+-- as many in either part
+abbrev Long : Parts → Parts → Type 0
+Long s r = (length r.re ≡ length s.re) × (length r.im ≡ length s.im)
+
+from_long : (f : Format) (rd : Reading) (ld : ℕ) (t : List Float) (k j : ℕ) (s : Parts) → Long s (values_from f rd ld t k j s)
+unfolding values_from one_value two_values
+from_long f rd ld t zero j s = (refl, refl)
+from_long f rd ld t (suc zero) j s = (simp length-set, simp length-set)
+from_long f rd ld t (suc (suc k)) j s =
+    either (Long s) (nonzero_below f ld t j) _ _
+    (let r = from_long f rd ld t k (j + 2) (two_values f rd ld t j s) in (r.0 ∙ simp length-set, r.1 ∙ simp length-set))
+    (let r = from_long f rd ld t (suc k) (j + 1) (one_value f ld t j s) in (r.0 ∙ simp length-set, r.1 ∙ simp length-set))
+
+values_long : (f : Format) (rd : Reading) (ld n : ℕ) (t : List Float) (s : Parts) → Long s (values_read f rd ld n t s).parts
+unfolding values_read
+values_long f rd ld n t s = either (λ (r : BlockValues). Long s r.parts) (eqb (values_line f ld n t s) 0) _ _ (from_long f rd ld t n 0 s) (refl, refl)
+
+column_alone : (f : Format) (ld n : ℕ) (t v : List Float) (col : ℕ) → vectors_line f ld n t v ≡ 0 → column_line ld n (evd_from_real_schur f ld n t v).v col ≡ first_of (position n col ∷ [])
+unfolding vectors_line column_line first_of
+column_alone f ld n t v col h =
+    let p2 = passed (line2 n) 1 _ h in
+    let p17 = passed (line17 ld n) 16 _ p2.1 in
+    let p3 = passed (line3 ld n t) 2 _ p17.1 in
+    let p4 = passed (not (eqb (length v) (ld * n))) 3 _ p3.1 in
+    rw (p2.0, p17.0, (rows-beyond.vectors f ld n t v).size, p4.0)
+
+pub buffers-sent_back : BuffersSentBack
+buffers-sent_back =
+    record {
+      factor = factor_long;
+      vectors = λ f ld n t v. (rows-beyond.vectors f ld n t v).size;
+      re = λ f rd ld n t s. (values_long f rd ld n t s).0;
+      im = λ f rd ld n t s. (values_long f rd ld n t s).1;
+      column = column_alone;
+    }
+
+-- ---- the numbers
+
+factor_stays : (f : Format) (ld n : ℕ) (t : List Float) (c : Call) → Numbers f (factor_of c) → Numbers f (called f ld n t c).factor
+unfolding called factor_of move_call stopping_call exchange_call
+factor_stays f ld n t (a_move from to u) h = either (λ (r : Moved). Numbers f r.factor) _ _ _ (factor_numbers f ld _ _ u h) h
+factor_stays f ld n t (a_stop from to u) h = either (λ (r : Stopped). Numbers f r.factor) _ _ _ (factor_numbers f ld _ _ u h) h
+factor_stays f ld n t (an_exchange j n1 n2 u) h = either (λ (r : Exchanged). Numbers f r.factor) _ _ _ (factor_numbers f ld _ _ u h) h
+
+pub numbers_stay : NumbersStay
+numbers_stay =
+    record {
+      form = λ f ld n t cs h m i l. (chain_keeps f ld n cs t (shape f ld n t h)).numbers (numbers-of f t m) i;
+      factor = λ f ld n t c m i l. factor_stays f ld n t c (numbers-of f _ m) i;
+    }
 
 -- ---- claim 2
 

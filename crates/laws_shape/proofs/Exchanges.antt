@@ -1,4 +1,4 @@
--- An exchange of either kind, where no 2-block lies across its edges: it is made of steps that fit, keeps the shape of the form and the edges outside, and leaves none across the edge between the two blocks in their new order. Assumes nothing.
+-- An exchange of either kind, where no 2-block lies across its edges: it is made of steps that fit, keeps the shape of the form, its numbers those of the format, and the edges outside, and leaves none across the edge between the two blocks in their new order. Assumes nothing.
 use mathlib.Core.Path.{◌≡◌, refl, ◌∙◌}
 use Prim.Native.Nat.{ℕ, zero, suc, ◌+◌, ◌≤◌, ◌<◌}
 use native.Mathlib.Decide.{ℕ_discrete}
@@ -17,6 +17,7 @@ use Rattle.model.specs.Stopping.{test_fails, exchanged_b, standardise_also, try_
 use Rattle.laws_stride.proofs.Tests.{both_true}
 use Rattle.laws_stride.proofs.Changes.{standardise_with, swap_with}
 use Rattle.laws_shape.specs.Steps.{Stepwise}
+use Rattle.laws_shape.proofs.Numbers.{Numbers, BlockNumbers, swap_numbers, block_numbers, exchanged_numbers, standardise_numbers}
 use Rattle.laws_shape.proofs.Shape.{Cut, Shape, Kept, cut_at}
 use Rattle.laws_shape.proofs.Swapped.{swap_keeps, standardise_keeps}
 use Rattle.laws_shape.proofs.Steps.{Edges, stepwise-none, stepwise_then, stepwise-declined, stepwise-standard, stepwise-run}
@@ -25,6 +26,7 @@ use Rattle.laws_shape.proofs.Steps.{Edges, stepwise-none, stepwise_then, stepwis
 pub record Goes (f : Format) (ld n a b : ℕ) (t : List Float) (c : Change) : Type 0 where
   pub steps : Stepwise f ld n t c
   pub kept : Kept f ld n a b t c.form
+  pub numbers : Numbers f t → Numbers f c.form
 
 -- an exchange of two blocks, after which none lies across the new middle
 pub record Trades (f : Format) (ld n j n1 n2 : ℕ) (t : List Float) (c : Change) : Type 0 where
@@ -37,7 +39,7 @@ still e k d c = k.outside e d ∙ c
 
 module _ (f : Format) (ld n : ℕ) where
   goes_none : (a b : ℕ) (t : List Float) → Shape f ld n t → Goes f ld n a b t (unchanged t)
-  goes_none a b t s = record { steps = stepwise-none f ld n t; kept = record { shape = s; outside = λ e d. refl } }
+  goes_none a b t s = record { steps = stepwise-none f ld n t; kept = record { shape = s; outside = λ e d. refl }; numbers = λ h. h }
 
   -- one after the other, each inside of the rows from a on and below b
   goes_then : (a b a1 b1 a2 b2 : ℕ) {t : List Float} {c : Change} (next : List Float → Change) → a ≤ a1 → b1 ≤ b → a ≤ a2 → b2 ≤ b
@@ -47,6 +49,7 @@ module _ (f : Format) (ld n : ℕ) where
       record {
         steps = stepwise_then f ld n next x.steps y.steps;
         kept = record { shape = y.kept.shape; outside = λ e d. y.kept.outside e (λ l m. d (omega arith) (omega arith)) ∙ x.kept.outside e (λ l m. d (omega arith) (omega arith)) };
+        numbers = λ h. y.numbers (x.numbers h);
       }
 
   -- ---- a swap
@@ -82,35 +85,38 @@ module _ (f : Format) (ld n : ℕ) where
   swap_trades : (j n1 n2 : ℕ) (t : List Float) → Shape f ld n t → Edges f ld n t j n1 n2 → Trades f ld n j n1 n2 t (swap_of f ld n j n1 n2 t)
   swap_trades j n1 n2 t s e =
       let x = swap_keeps f ld n t s j n1 n2 e.room e.upper e.middle e.lower in
-      record { goes = record { steps = swap_steps j t n1 n2 e; kept = x.0 }; middle = x.1 }
+      record { goes = record { steps = swap_steps j t n1 n2 e; kept = x.0; numbers = swap_numbers f ld n j n1 n2 t }; middle = x.1 }
 
-  -- ---- standardised if there are two rows, to whatever block
+  -- ---- standardised if there are two rows, to whatever is made of the block, of numbers of the format if its own are
 
-  standard-goes : (g : Block → Block) (size j : ℕ) (t : List Float) → Shape f ld n t → size ≤ 2 → j + size ≤ n → Cut f ld n t j → Cut f ld n t (j + size) → Goes f ld n j (j + size) t (standardise_with g f ld n size j t)
+  abbrev Blockwise : (Block → Block) → Type 0
+  Blockwise g = (x : Block) → BlockNumbers f x → BlockNumbers f (g x)
+
+  standard-goes : (g : Block → Block) → Blockwise g → (size j : ℕ) (t : List Float) → Shape f ld n t → size ≤ 2 → j + size ≤ n → Cut f ld n t j → Cut f ld n t (j + size) → Goes f ld n j (j + size) t (standardise_with g f ld n size j t)
   unfolding standardise_with
-  standard-goes g size j t s l h cj cb =
+  standard-goes g w size j t s l h cj cb =
       elim (ℕ_discrete size 2) [
         | yes p ↦
             let b = g (block_at f ld t j) in
-            rw p (record { steps = stepwise-standard f ld n t j b (record { rows = rw p at h; upper = cj; lower = rw p at cb }); kept = standardise_keeps f ld n t s j b (rw p at h) cj (rw p at cb) })
+            rw p (record { steps = stepwise-standard f ld n t j b (record { rows = rw p at h; upper = cj; lower = rw p at cb }); kept = standardise_keeps f ld n t s j b (rw p at h) cj (rw p at cb); numbers = λ m. standardise_numbers f ld n j b t (w _ (block_numbers f ld j t m)) m })
         | no p ↦ rw (ne_eqb size 2 p) (goes_none j (j + size) t s)
       ]
 
   -- ---- one swap, then the new upper block standardised, then the lower
 
-  with_trades : (g : Block → Block) (j n1 n2 : ℕ) (t : List Float) → Shape f ld n t → Edges f ld n t j n1 n2 → Trades f ld n j n1 n2 t (swap_with g f ld n j n1 n2 t)
+  with_trades : (g : Block → Block) → Blockwise g → (j n1 n2 : ℕ) (t : List Float) → Shape f ld n t → Edges f ld n t j n1 n2 → Trades f ld n j n1 n2 t (swap_with g f ld n j n1 n2 t)
   unfolding swap_with and_then
-  with_trades g j n1 n2 t s e =
+  with_trades g w j n1 n2 t s e =
       let k = e.room in
       let b = j + n1 + n2 in
       let q : j + n2 + n1 ≡ b = omega arith in
       let x = swap_trades j n1 n2 t s e in
       let y =
-      standard-goes g n2 j (swap_of f ld n j n1 n2 t).form x.goes.kept.shape k.most2 (omega arith)
+      standard-goes g w n2 j (swap_of f ld n j n1 n2 t).form x.goes.kept.shape k.most2 (omega arith)
       (still j x.goes.kept (λ l m. omega arith) e.upper) x.middle in
       let c = still (j + n2) y.kept (λ l m. omega arith) x.middle in
       let z =
-      standard-goes g n1 (j + n2) (standardise_with g f ld n n2 j (swap_of f ld n j n1 n2 t).form).form y.kept.shape k.most1 (omega arith) c
+      standard-goes g w n1 (j + n2) (standardise_with g f ld n n2 j (swap_of f ld n j n1 n2 t).form).form y.kept.shape k.most1 (omega arith) c
       (rw q (still b y.kept (λ l m. omega arith) (still b x.goes.kept (λ l m. omega arith) e.lower))) in
       record {
         goes =
@@ -121,7 +127,7 @@ module _ (f : Format) (ld n : ℕ) where
 
   whole_trades : (j n1 n2 : ℕ) (t : List Float) → Shape f ld n t → Edges f ld n t j n1 n2 → Trades f ld n j n1 n2 t (exchange_whole f ld n j n1 n2 t)
   unfolding exchange_whole swap_with standardise_if standardise standardise_with
-  whole_trades = with_trades (λ x. x)
+  whole_trades = with_trades (λ x. x) (λ x h. h)
 
   -- ---- 01's exchange: two rows with a zero inside go one by one
 
@@ -202,11 +208,11 @@ unfolding try_exchange standardise_also swap_with standardise_with declines_in
 stopping_lawful f ld n = record { goes = λ j n1 n2 t s e. go j n1 n2 t s e (test_fails f ld t j n1 n2); middle = λ j n1 n2 t s e. cut j n1 n2 t s e (test_fails f ld t j n1 n2) }
   where
     go : (j n1 n2 : ℕ) (t : List Float) → Shape f ld n t → Edges f ld n t j n1 n2 → (b : Bool) → Goes f ld n j (j + n1 + n2) t (cond b (declining j n1 n2 t) (swap_with (exchanged_b f) f ld n j n1 n2 t))
-    go j n1 n2 t s e true = record { steps = stepwise-declined f ld n t j n1 n2 e; kept = record { shape = s; outside = λ x d. refl } }
-    go j n1 n2 t s e false = (with_trades f ld n (exchanged_b f) j n1 n2 t s e).goes
+    go j n1 n2 t s e true = record { steps = stepwise-declined f ld n t j n1 n2 e; kept = record { shape = s; outside = λ x d. refl }; numbers = λ h. h }
+    go j n1 n2 t s e false = (with_trades f ld n (exchanged_b f) (exchanged_numbers f) j n1 n2 t s e).goes
 
     cut : (j n1 n2 : ℕ) (t : List Float) → Shape f ld n t → Edges f ld n t j n1 n2 → (b : Bool)
         → not (eqb (declined_of (cond b (declining j n1 n2 t) (swap_with (exchanged_b f) f ld n j n1 n2 t))) 0) ≡ false
         → Cut f ld n (cond b (declining j n1 n2 t) (swap_with (exchanged_b f) f ld n j n1 n2 t)).form (j + n2)
     cut j n1 n2 t s e true h = absurd (true≢false h)
-    cut j n1 n2 t s e false h = (with_trades f ld n (exchanged_b f) j n1 n2 t s e).middle
+    cut j n1 n2 t s e false h = (with_trades f ld n (exchanged_b f) (exchanged_numbers f) j n1 n2 t s e).middle

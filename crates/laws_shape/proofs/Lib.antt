@@ -1,4 +1,5 @@
 -- The proofs about the shape of a form.
+pub mod Numbers
 pub mod Within
 pub mod Shape
 pub mod Swapped

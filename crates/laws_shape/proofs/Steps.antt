@@ -15,6 +15,7 @@ use Rattle.laws_moves.proofs.Upper.{or_left, or_right}
 use Rattle.laws_stride.proofs.Lines.{sizes}
 use Rattle.laws_stride.proofs.Changes.{Room}
 use Rattle.laws_shape.specs.Steps.{Step, runs, standardises, stepped, stepped_by, runs_of, RunFits, RowsFit, Fits, AllFit, StepsKeep, Stepwise}
+use Rattle.laws_shape.proofs.Numbers.{either}
 use Rattle.laws_shape.proofs.Shape.{Cut, Shape, shape, accepted}
 use Rattle.laws_shape.proofs.Swapped.{swap_keeps, standardise_keeps}
 
@@ -55,16 +56,11 @@ module _ (f : Format) (ld n : ℕ) (t : List Float) where
 
 -- ---- steps that fit keep the shape
 
--- declined or not
-by_decline : {A : Type 0} (P : A → Type 0) (b : Bool) (x y : A) → P x → P y → P (cond b x y)
-by_decline P true x y p q = p
-by_decline P false x y p q = q
-
 step_keeps : (f : Format) (ld n : ℕ) (t : List Float) (s : Step) → Shape f ld n t → Fits f ld n t s → Shape f ld n (stepped f ld n s t)
 unfolding stepped Fits
 step_keeps f ld n t (runs r) h k =
     let e = edges-of f ld n t r k in
-    by_decline (Shape f ld n) r.declined t _ h (swap_keeps f ld n t h r.row r.n1 r.n2 e.room e.upper e.middle e.lower).0.shape
+    either (Shape f ld n) r.declined t _ h (swap_keeps f ld n t h r.row r.n1 r.n2 e.room e.upper e.middle e.lower).0.shape
 step_keeps f ld n t (standardises j b) h k = (standardise_keeps f ld n t h j b k.rows k.upper k.lower).shape
 
 steps_shape : (f : Format) (ld n : ℕ) (t : List Float) (ss : List Step) → Shape f ld n t → AllFit f ld n t ss → Shape f ld n (stepped_by f ld n ss t)

@@ -1,4 +1,4 @@
--- A move of either kind on an accepted form: each of its exchanges lies between edges that no 2-block lies across, after a decline too, so that what it has done is made of steps that fit, and the form keeps its shape. Assumes nothing.
+-- A move of either kind on an accepted form: each of its exchanges lies between edges that no 2-block lies across, after a decline too, so that what it has done is made of steps that fit, and the form keeps its shape, and its numbers are those of the format still. Assumes nothing.
 use mathlib.Core.Path.{◌≡◌, refl, ◌∙◌}
 use Prim.Native.Nat.{ℕ, zero, suc, ◌+◌, ◌-◌, ◌≤◌, ◌<◌}
 use native.Mathlib.Omega.{arith}
@@ -15,6 +15,7 @@ use Rattle.model.specs.Stopping.{Kind, Going, goes, onward, trying, whole_down, 
 use Rattle.laws_stride.proofs.Walk.{Standing, Size, size_in, above_in, first_below, goal-below}
 use Rattle.laws_shape.specs.Steps.{Stepwise}
 use Rattle.laws_shape.specs.Meets.{AllAccepted}
+use Rattle.laws_shape.proofs.Numbers.{Numbers}
 use Rattle.laws_shape.proofs.Shape.{Cut, Shape, cut_at}
 use Rattle.laws_shape.proofs.Steps.{Edges, stepwise-none, stepwise_then}
 use Rattle.laws_shape.proofs.Exchanges.{Lawful, still}
@@ -35,10 +36,11 @@ module _ (k : Kind) (f : Format) (ld n : ℕ) (L : Lawful k f ld n) (t : List Fl
     pub steps : Stepwise f ld n t m.change
     pub shape : Shape f ld n m.change.form
     pub accepted : AllAccepted k f ld n t m.exchanges m.change.form
+    pub numbers : Numbers f t → Numbers f m.change.form
 
   -- wherever its block is said to be
   far_as : (here nbf : ℕ) (m : Moving) → Far m → Far (record { here = here; nbf = nbf; change = m.change; exchanges = m.exchanges })
-  far_as here nbf m h = record { steps = h.steps; shape = h.shape; accepted = h.accepted }
+  far_as here nbf m h = record { steps = h.steps; shape = h.shape; accepted = h.accepted; numbers = h.numbers }
 
   -- no 2-block lies across an edge of its form
   abbrev CutIn : Moving → ℕ → Type 0
@@ -103,6 +105,7 @@ module _ (k : Kind) (f : Format) (ld n : ℕ) (L : Lawful k f ld n) (t : List Fl
             steps = stepwise_then f ld n (k.exchange j n1 n2) h.steps g.steps;
             shape = g.kept.shape;
             accepted = accepted-more k f ld n t c.form m.exchanges (record { row = j; n1 = n1; n2 = n2 }) h.accepted (exchange-accepted f ld n c.form h.shape j n1 n2 e);
+            numbers = λ m. g.numbers (h.numbers m);
           }
 
       go : (b : Bool) → (k.stops && not (eqb (declined_of (k.exchange j n1 n2 c.form)) 0)) ≡ b → Holds (After j n1 n2 m) b done
@@ -414,7 +417,7 @@ module _ (k : Kind) (f : Format) (ld n : ℕ) (L : Lawful k f ld n) (t : List Fl
         stands =
             let y = x in
             record {
-              far = record { steps = stepwise-none f ld n t; shape = shape; accepted = refl };
+              far = record { steps = stepwise-none f ld n t; shape = shape; accepted = refl; numbers = λ m. m };
               standing = omega arith;
               upper = c;
               lower = size_cut f ld n t shape from;

@@ -1,4 +1,4 @@
--- The claims on chains of calls: whatever accepted form they begin with and whatever numbers stand in it, what they give back can be sent to any call again; and the form and all answers are the same with a factor and without. Definitions only: proofs/Chains.antt proves them. Assumes nothing.
+-- The claims on chains of calls: whatever accepted form they begin with and whatever numbers stand in it, what they give back can be sent to any call again, buffers too; and the form and all answers are the same with a factor and without. Definitions only: proofs/Chains.antt proves them. Assumes nothing.
 -- All over the format and the stride.
 use Rattle.std.specs.Prelude.{ℕ, ◌*◌, ◌≡◌, Bool, false, List, [], ◌∷◌, length, Float}
 use Rattle.std.specs.Float.{Format}
@@ -7,8 +7,9 @@ use Rattle.model.specs.Form.{line4, line5, line6, form_line, factor_length, buff
 use Rattle.model.specs.Exchange.{block_sizes, past_the_end, across_edges, exchange_line, Exchanged, exchange_call}
 use Rattle.model.specs.Move.{move_line, Moved, move_call}
 use Rattle.model.specs.Stopping.{Stopped, stopping_call}
-use Rattle.model.specs.Values.{Parts, values_line}
-use Rattle.model.specs.Vectors.{vectors_line}
+use Rattle.model.specs.Values.{Reading, Parts, values_line, values_read}
+use Rattle.model.specs.Vectors.{vectors_line, evd_from_real_schur, column_line}
+use Rattle.laws_shape.specs.Numbers.{InFormat}
 
 -- ---- a chain of calls on one form
 
@@ -80,14 +81,28 @@ pub record CanBeSent (f : Format) (ld n : ℕ) (t : List Float) : Type 0 where
 abbrev pub SentBack : Type 0
 SentBack = (f : Format) (ld n : ℕ) (t : List Float) (cs : List Call) → form_line f ld n t ≡ 0 → CanBeSent f ld n (form_after f ld n cs t)
 
--- and the factor that a call leaves is as long as the one that it was lent
+-- ---- and so can the buffers beside the form
+
+-- the factor that a call is lent
 unfoldable pub factor_of : Call → List Float
 factor_of (a_move from to u) = u
 factor_of (a_stop from to u) = u
 factor_of (an_exchange j n1 n2 u) = u
 
-abbrev pub FactorSentBack : Type 0
-FactorSentBack = (f : Format) (ld n : ℕ) (t : List Float) (c : Call) → length (called f ld n t c).factor ≡ length (factor_of c)
+-- a call leaves each as long as it was lent, turned away or not
+pub record BuffersSentBack : Type 0 where
+  pub factor : (f : Format) (ld n : ℕ) (t : List Float) (c : Call) → length (called f ld n t c).factor ≡ length (factor_of c)
+  pub vectors : (f : Format) (ld n : ℕ) (t v : List Float) → length (evd_from_real_schur f ld n t v).v ≡ length v
+  -- of the values, by any reading
+  pub re : (f : Format) (rd : Reading) (ld n : ℕ) (t : List Float) (s : Parts) → length (values_read f rd ld n t s).parts.re ≡ length s.re
+  pub im : (f : Format) (rd : Reading) (ld n : ℕ) (t : List Float) (s : Parts) → length (values_read f rd ld n t s).parts.im ≡ length s.im
+  -- so a column of the vectors of an accepted form is refused for its number alone
+  pub column : (f : Format) (ld n : ℕ) (t v : List Float) (col : ℕ) → vectors_line f ld n t v ≡ 0 → column_line ld n (evd_from_real_schur f ld n t v).v col ≡ first_of (position n col ∷ [])
+
+-- and the numbers of form and factor stay numbers of the format, if they were: words for them can be written down, and read again
+pub record NumbersStay : Type 0 where
+  pub form : (f : Format) (ld n : ℕ) (t : List Float) (cs : List Call) → form_line f ld n t ≡ 0 → InFormat f t → InFormat f (form_after f ld n cs t)
+  pub factor : (f : Format) (ld n : ℕ) (t : List Float) (c : Call) → InFormat f (factor_of c) → InFormat f (called f ld n t c).factor
 
 -- ---- claim 2: the same with a factor and without
 

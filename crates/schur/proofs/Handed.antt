@@ -9,8 +9,8 @@ use Rattle.laws_stride.proofs.Base.{stride_is_n_lem}
 use Rattle.laws_stride.proofs.Strides.{rows-beyond, two-strides, like_base_lem}
 use Rattle.laws_shape.proofs.Steps.{steps_keep_lem}
 use Rattle.laws_shape.proofs.Meets.{all-stepwise, never_across_lem}
-use Rattle.laws_shape.proofs.Chains.{sent_back_lem, factor-sent_back, same_without_lem}
-use Rattle.schur.specs.Handed.{CallsChoose, HandedOver, SentOn}
+use Rattle.laws_shape.proofs.Chains.{sent_back_lem, buffers-sent_back, numbers_stay, same_without_lem}
+use Rattle.schur.specs.Handed.{CallsChoose, HandedOver}
 
 calls_choose : CallsChoose
 unfolding move_call
@@ -31,13 +31,9 @@ handed_over =
       strides = two-strides;
       stride_is_n = stride_is_n_lem;
       like_base = like_base_lem;
-    }
-
-pub sent_on : SentOn
-sent_on =
-    record {
       sent_back = sent_back_lem;
-      factor_sent_back = factor-sent_back;
+      buffers_sent_back = buffers-sent_back;
+      numbers_stay = numbers_stay;
       same_without = same_without_lem;
       steps_keep = steps_keep_lem;
       stepwise = all-stepwise;

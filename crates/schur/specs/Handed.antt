@@ -12,7 +12,7 @@ use Rattle.laws_stride.specs.Strides.{TwoStrides, LikeBase}
 use Rattle.laws_stride.specs.Base.{StrideIsN}
 use Rattle.laws_shape.specs.Steps.{StepsKeep, AllStepwise}
 use Rattle.laws_shape.specs.Meets.{NeverAcross}
-use Rattle.laws_shape.specs.Chains.{SentBack, FactorSentBack, SameWithout}
+use Rattle.laws_shape.specs.Chains.{SentBack, BuffersSentBack, NumbersStay, SameWithout}
 
 -- a call that no line turns away is the move whose exchanges are dtrexc's
 pub record Chosen (f : Format) (ld n : ℕ) (t u : List Float) (from to : ℕ) : Type 0 where
@@ -38,12 +38,10 @@ pub record HandedOver : Type 1 where
   pub strides : TwoStrides
   pub stride_is_n : StrideIsN
   pub like_base : LikeBase
-
--- and with both, that what they give back can be sent to any call again
-pub record SentOn : Type 0 where
-  -- after any chain of these calls and of the move that stops, form and factor can be sent to any call again; form and answers are the same with a factor and without
+  -- after any chain of these calls and of the move that stops, the form, and the buffers beside it, can be sent to any call again, and its numbers are those of the format; form and answers are the same with a factor and without
   pub sent_back : SentBack
-  pub factor_sent_back : FactorSentBack
+  pub buffers_sent_back : BuffersSentBack
+  pub numbers_stay : NumbersStay
   pub same_without : SameWithout
   -- each run leaves an accepted form, and no move makes an exchange across a 2-block
   pub steps_keep : StepsKeep

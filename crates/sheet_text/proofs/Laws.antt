@@ -1,16 +1,28 @@
--- A text is that of one request, which is found, and what was printed reads back. Assumes nothing.
+-- A text is that of one request, which is found, and what was printed reads back, as the next request too. Assumes nothing.
 use mathlib.Core.Path.{◌≡◌, refl, sym, ap, ap₂, ◌∙◌}
-use mathlib.Core.Bool.{Bool, true, false}
+use mathlib.Core.Bool.{Bool, true, false, not, ◌||◌, cond, true≢false}
 use mathlib.Core.List.{List, [], ◌∷◌, ◌++◌}
-use Prim.Native.Nat.{zero, suc, ◌^◌, ◌≤◌, ◌<◌}
+use Prim.Native.Nat.{ℕ, zero, suc, ◌*◌, ◌^◌, ◌≤◌, ◌<◌}
+use native.Mathlib.Nat.{mul-le-mul_left}
 use native.Mathlib.Omega.{arith}
-use lib.Dec.{T}
+use lib.Dec.{T, eqb, ltb}
 use lib.ListN.{length, length-append, length-map}
 use lib.Ieee.{Float, binary64, fits, is_nan, of_bits}
-use lib.Ieee.Bits.{of_bits-to_bits, to_bits-lt}
+use lib.Ieee.Bits.{of_bits-to_bits, of_bits-fits, to_bits-lt}
+use borrow.Author.Tests.{eqb-true, le-ltb}
 use Rattle.model.specs.Ascii.{ascii}
-use Rattle.model.specs.Text.{Request, text_of, InBounds, words, word_of, words_of, numbers, request_of, laid_out, answer_line, sheet_of}
-use Rattle.sheet_text.specs.Laws.{OneRequest, FoundExactly, SheetOfRequest, SheetOfNone, AllFit, sent_back, RoundTrip}
+use Rattle.model.specs.Lines.{first_of}
+use Rattle.model.specs.Form.{line2, line17, line3, line4}
+use Rattle.model.specs.Move.{moved, move, move_line, move_call}
+use Rattle.model.specs.Text.{Request, text_of, InBounds, words, word_of, words_of, numbers, request_of, laid_out, printed, answer_line, sheet_of}
+use Rattle.laws.proofs.InOrder.{passed}
+use Rattle.laws_moves.proofs.Upper.{or_left}
+use Rattle.laws_stride.proofs.Lines.{move-accepted}
+use Rattle.laws_shape.specs.Numbers.{InFormat}
+use Rattle.laws_shape.specs.Chains.{a_move, called, form_after, CanBeSent, factor_of}
+use Rattle.laws_shape.proofs.Shape.{shape}
+use Rattle.laws_shape.proofs.Chains.{sent_back_lem, buffers-sent_back, numbers_stay}
+use Rattle.sheet_text.specs.Laws.{OneRequest, FoundExactly, SheetOfRequest, SheetOfNone, sent_back, RoundTrip, SheetsGoOn}
 use Rattle.bits.proofs.Nan.{nan_is}
 use Rattle.sheet_words.proofs.Reading.{Words64, words-few, decimal-length}
 use Rattle.sheet_words.proofs.Back.{back, nested, from-n}
@@ -55,14 +67,14 @@ word_64 x h = by (is_nan x) refl
     by true e = rw e (omega arith)
     by false e = rw e (to_bits-lt binary64 x h)
 
-others_fit : (x : Float) (xs : List Float) → AllFit (x ∷ xs) → AllFit xs
+others_fit : (x : Float) (xs : List Float) → InFormat binary64 (x ∷ xs) → InFormat binary64 xs
 others_fit x xs h i l = h (suc i) (omega arith)
 
-numbers-back : (xs : List Float) → AllFit xs → numbers (words_of xs) ≡ xs
+numbers-back : (xs : List Float) → InFormat binary64 xs → numbers (words_of xs) ≡ xs
 numbers-back [] h = refl
 numbers-back (x ∷ xs) h = ap₂ (λ (y : Float) (ys : List Float). y ∷ ys) (number-back x (h 0 (omega arith))) (numbers-back xs (others_fit x xs h))
 
-words_64 : (xs : List Float) → AllFit xs → Words64 (words_of xs)
+words_64 : (xs : List Float) → InFormat binary64 xs → Words64 (words_of xs)
 words_64 [] h i l = absurd (omega arith)
 words_64 (x ∷ xs) h zero l = word_64 x (h 0 (omega arith))
 words_64 (x ∷ xs) h (suc i) l = words_64 xs (others_fit x xs h) i (omega arith)
@@ -95,3 +107,72 @@ round_trip n from to xs ys a b c f g h k =
           let s : q ≡ r = one_request q r j i e in
           (ap (λ (x : Request). numbers x.form) s ∙ numbers-back xs f, ap (λ (x : Request). numbers x.factor) s ∙ numbers-back ys g),
     )
+
+-- ---- a sheet sent back in
+
+-- the numbers of words are those of the format
+numbers_fit : (ws : List ℕ) → InFormat binary64 (numbers ws)
+numbers_fit [] i l = absurd (omega arith)
+numbers_fit (w ∷ ws) zero l = of_bits-fits binary64 w
+numbers_fit (w ∷ ws) (suc i) l = numbers_fit ws i (omega arith)
+
+-- 0 is the answer where no line is told
+made : (n from to : ℕ) (t u : List Float) → (move_call binary64 n n t u from to).answer ≡ 0 → move_line binary64 n n t u from to ≡ 0
+unfolding move_call
+made n from to t u = by (eqb line 0) refl
+  where
+    line : ℕ
+    line = move_line binary64 n n t u from to
+
+    by : (b : Bool) → eqb line 0 ≡ b → (cond b (moved binary64 n n u (move binary64 n n from to t)) (record { answer = line; landed = 0; swaps = 0; declined = 0; form = t; factor = u })).answer ≡ 0 → line ≡ 0
+    by true e h = eqb-true line 0 e
+    by false e h = h
+
+-- the factor's length is then right
+factor_right : (n from to : ℕ) (t u : List Float) → move_line binary64 n n t u from to ≡ 0 → line4 n n u ≡ false
+unfolding move_line first_of
+factor_right n from to t u h =
+    let p2 = passed (line2 n) 1 _ h in
+    let p17 = passed (line17 n n) 16 _ p2.1 in
+    let p3 = passed (line3 n n t) 2 _ p17.1 in
+    (passed (line4 n n u) 3 _ p3.1).0
+
+square : (n : ℕ) → n ≤ 32 → n * n ≤ 1024
+square n h = omega (arith, mul-le-mul_left n h)
+
+factor_few : (n : ℕ) (u : List Float) → n ≤ 32 → line4 n n u ≡ false → length u ≤ 1024
+unfolding line4
+factor_few n u h e = by (eqb (length u) (n * n)) (eqb (length u) 0) (eqb-true _ _) (eqb-true _ _) e
+  where
+    by : (a b : Bool) → (a ≡ true → length u ≡ n * n) → (b ≡ true → length u ≡ 0) → not (a || b) ≡ false → length u ≤ 1024
+    by true b p q e = let i = p refl in omega (arith, square n h)
+    by false true p q e = let i = q refl in omega arith
+    by false false p q e = absurd (true≢false e)
+
+-- the program has room for so many rows
+rows_right : (n : ℕ) → n ≤ 32 → line2 n ≡ false → eqb n 0 || ltb 32 n ≡ false
+unfolding line2
+rows_right n h e = rw (or_left (eqb n 0) (ltb 64 n) e, le-ltb 32 n h)
+
+pub sheets_go_on : SheetsGoOn
+unfolding form_after called factor_of line4 first_of printed
+sheets_go_on r from to k a x y =
+    let t = numbers r.form in
+    let u = numbers r.factor in
+    let line = made r.n r.from r.to t u a in
+    let form = move-accepted binary64 r.n r.n t u r.from r.to line in
+    let c = a_move r.from r.to u in
+    let m = move_call binary64 r.n r.n t u r.from r.to in
+    let s : CanBeSent binary64 r.n r.n m.form = sent_back_lem binary64 r.n r.n t (c ∷ []) form in
+    let z = shape binary64 r.n r.n m.form s.accepted in
+    let fit : InFormat binary64 m.form = numbers_stay.form binary64 r.n r.n t (c ∷ []) form (numbers_fit r.form) in
+    let fit' : InFormat binary64 m.factor = numbers_stay.factor binary64 r.n r.n t c (numbers_fit r.factor) in
+    let long : length m.factor ≡ length u = buffers-sent_back.factor binary64 r.n r.n t c in
+    let l4 : line4 r.n r.n m.factor ≡ false = rw long (factor_right r.n r.from r.to t u line) in
+    let q = sent_back r.n from to m.form m.factor in
+    let i : InBounds q = (round_trip r.n from to m.form m.factor (omega arith) x y fit fit' (omega (arith, z.size, square r.n k)) (factor_few r.n m.factor k l4)).0 in
+    record {
+      in_bounds = i;
+      sheet = sheet_of_request q i ∙ rw (rows_right r.n k z.rows, numbers-back m.form fit, numbers-back m.factor fit');
+      own = s.own.moves m.factor from to ∙ rw l4;
+    }

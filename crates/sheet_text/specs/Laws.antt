@@ -1,8 +1,11 @@
 -- What holds of the text of a sheet, as statements; proofs/Laws.antt has their proofs. Definitions only. Assumes nothing.
-use Rattle.std.specs.Prelude.{ℕ, ◌^◌, ◌≤◌, ◌<◌, ◌≡◌, true, List, T, length, get_or, Float}
-use Rattle.std.specs.Float.{nan, binary64}
-use Rattle.std.specs.Float.Ieee.{fits}
-use Rattle.model.specs.Text.{Request, text_of, InBounds, request_of, laid_out, numbers, words_of, printed, answer_line, sheet_of}
+use Rattle.std.specs.Prelude.{ℕ, ◌^◌, ◌≤◌, ◌<◌, ◌≡◌, true, List, [], ◌∷◌, length, Float}
+use Rattle.std.specs.Float.{binary64}
+use Rattle.model.specs.Lines.{first_of}
+use Rattle.model.specs.Form.{position}
+use Rattle.model.specs.Move.{Moved, move_line, move_call}
+use Rattle.model.specs.Text.{Request, text_of, InBounds, request_of, laid_out, numbers, words_of, printed_move, printed, answer_line, sheet_of}
+use Rattle.laws_shape.specs.Numbers.{InFormat}
 
 -- a text is that of one request at most
 abbrev pub OneRequest : Type 0
@@ -23,10 +26,6 @@ SheetOfRequest = (r : Request) → InBounds r → sheet_of (text_of r) ≡ print
 abbrev pub SheetOfNone : Type 0
 SheetOfNone = (s : List ℕ) → ((r : Request) → InBounds r → s ≡ text_of r → ⊥) → sheet_of s ≡ answer_line 1
 
--- all are f64
-abbrev pub AllFit : List Float → Type 0
-AllFit xs = (i : ℕ) → i < length xs → T (fits binary64 (get_or xs i nan))
-
 -- a request with the words that are printed for a form and a factor
 abbrev pub sent_back : ℕ → ℕ → ℕ → List Float → List Float → Request
 sent_back n from to xs ys = record { n = n; from = from; to = to; form = words_of xs; factor = words_of ys }
@@ -34,6 +33,22 @@ sent_back n from to xs ys = record { n = n; from = from; to = to; form = words_o
 -- A round trip: what is printed for a form and a factor of at most 32 rows may be sent back in, and is then read as that form and that factor.
 abbrev pub RoundTrip : Type 0
 RoundTrip =
-    (n from to : ℕ) (xs ys : List Float) → n < 10 ^ 4 → from < 10 ^ 4 → to < 10 ^ 4 → AllFit xs → AllFit ys → length xs ≤ 1024 → length ys ≤ 1024
+    (n from to : ℕ) (xs ys : List Float) → n < 10 ^ 4 → from < 10 ^ 4 → to < 10 ^ 4 → InFormat binary64 xs → InFormat binary64 ys → length xs ≤ 1024 → length ys ≤ 1024
     → InBounds (sent_back n from to xs ys)
     × ((q : Request) → InBounds q → text_of q ≡ text_of (sent_back n from to xs ys) → (numbers q.form ≡ xs) × (numbers q.factor ≡ ys))
+
+-- ---- a sheet sent back in as the next request
+
+-- the move of a request
+abbrev pub move_of : Request → Moved
+move_of r = move_call binary64 r.n r.n (numbers r.form) (numbers r.factor) r.from r.to
+
+-- After a move m, the words that its sheet has may be sent in with two positions: the sheet of that text is the move of the form and the factor as m left them, and no line but 7, for a position, turns it away.
+pub record GoesOn (n : ℕ) (m : Moved) (from to : ℕ) : Type 0 where
+  pub in_bounds : InBounds (sent_back n from to m.form m.factor)
+  pub sheet : sheet_of (text_of (sent_back n from to m.form m.factor)) ≡ printed_move (move_call binary64 n n m.form m.factor from to)
+  pub own : move_line binary64 n n m.form m.factor from to ≡ first_of (position n from ∷ position n to ∷ [])
+
+-- and so one sheet after the other, each from what the one before printed
+abbrev pub SheetsGoOn : Type 0
+SheetsGoOn = (r : Request) (from to : ℕ) → r.n ≤ 32 → (move_of r).answer ≡ 0 → from < 10 ^ 4 → to < 10 ^ 4 → GoesOn r.n (move_of r) from to

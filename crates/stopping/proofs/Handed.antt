@@ -3,13 +3,13 @@ use Rattle.laws_moves.proofs.Lists.{lists_of_moves}
 use Rattle.laws_moves.proofs.BothKinds.{stopping_on_triangular}
 use Rattle.laws_stride.proofs.Strides.{rows-beyond, two-strides}
 use Rattle.laws_shape.proofs.Meets.{never_across_lem}
-use Rattle.laws_shape.proofs.Chains.{sent_back_lem, same_without_lem}
+use Rattle.laws_shape.proofs.Chains.{sent_back_lem, buffers-sent_back, numbers_stay, same_without_lem}
 use Rattle.laws_stopping.proofs.Control.{one-control}
 use Rattle.laws_stopping.proofs.Stops.{stops_exactly, call-stops}
 use Rattle.laws_stopping.proofs.Follows.{stopping_is_dtrexc}
 use Rattle.laws_stopping.proofs.Whole.{never_parted}
 use Rattle.laws_stopping.proofs.Standard.{exchange_is_dlanv2}
-use Rattle.stopping.specs.Handed.{HandedOver, SentOn}
+use Rattle.stopping.specs.Handed.{HandedOver}
 
 pub handed_over : HandedOver
 handed_over =
@@ -24,12 +24,9 @@ handed_over =
       lists = lists_of_moves;
       beyond = rows-beyond;
       strides = two-strides;
-    }
-
-pub sent_on : SentOn
-sent_on =
-    record {
       sent_back = sent_back_lem;
+      buffers_sent_back = buffers-sent_back;
+      numbers_stay = numbers_stay;
       same_without = same_without_lem;
       never_across = never_across_lem;
     }

@@ -122,6 +122,13 @@ pub fn chain(rng: &mut Rng, sizes: Sizes) -> Record {
     if rng.one_in(3) { case } else { strides::spread(rng, &case) }
 }
 
+/// The same to begin a chain of sheets with: n, the form and a factor, or none.
+pub fn sheets(rng: &mut Rng, sizes: Sizes) -> (usize, Vec<f64>, Vec<f64>) {
+    let first = chain(rng, sizes);
+    let n = first.n("n");
+    (n, stride::form(&first), factor(rng, n))
+}
+
 /// A move, a move that stops or an exchange on the form of a case, with its stride if it has one. One
 /// in eight is spoilt, but not in its form, rows or stride.
 pub fn further(rng: &mut Rng, last: &Record) -> Record {
