@@ -107,8 +107,8 @@ impl fmt::Display for Sheets {
     }
 }
 
-/// A chain of sheets up to its end, or to the first that is not what the Rust's moves of the numbers
-/// themselves give: then its request, and both. One request in eight names a row that is not there.
+/// A chain of sheets up to its end, or to the first that is not what the Rust's move of the numbers
+/// themselves gives: then its request, and both. One request in eight names a row that is not there.
 fn sheets(
     seed: u64,
     index: u64,
@@ -118,28 +118,35 @@ fn sheets(
 ) -> io::Result<Option<String>> {
     let rng = &mut Rng::new(seed, "sheets", index);
     let (least, most) = (sizes.least.min(sheet::MOST_ROWS), sizes.most.min(sheet::MOST_ROWS));
-    let (n, mut t, mut u) = generate::sheets(rng, Sizes { least, most });
-    let mut lines = sheet::lines(&t, &u);
+    let mut last = generate::sheets(rng, Sizes { least, most });
+    let n = last.n("n");
+    let mut squares = sheet::squares(last.l("t"), last.l("u"));
     for _ in 0..LENGTH {
-        let (mut from, to) = (rng.below(n), rng.below(n));
-        if rng.one_in(8) {
-            from = n + rng.below(10_000 - n);
-        }
-        let text = format!("n={n}\nfrom={from}\nto={to}\n{lines}");
-        let wanted = if from < n { sheet::moved(n, &mut t, &mut u, from, to) } else { "answer=7\n".to_string() };
+        let from = if rng.one_in(8) { n + rng.below(10_000 - n) } else { rng.below(n) };
+        let case = last.num("from", from).num("to", rng.below(n));
+        let text = format!("n={n}\nfrom={from}\nto={}\n{squares}", case.n("to"));
+        let (rust, _) = calls::unsettled(&case);
+        let (t, u) = (rust.l("t"), rust.l("u"));
+        let wanted = match rust.n("answer") {
+            0 => sheet::of_move([rust.n("landed"), rust.n("swaps"), rust.n("declined")], t, u),
+            line => format!("answer={line}\n"),
+        };
         let printed = program(text.as_bytes())?;
         if printed != wanted.as_bytes() {
-            let printed = String::from_utf8_lossy(&printed).into_owned();
+            let printed = String::from_utf8_lossy(&printed);
             return Ok(Some(format!("{text}  prints\n{printed}  and not\n{wanted}")));
         }
         met.sheets += 1;
-        if let Some(place) = wanted.find("t=") {
+        if rust.n("answer") == 0 {
             met.accepted += 1;
             met.with_nan += u64::from(t.iter().any(|x| x.is_nan()));
             met.with_factor += u64::from(!u.is_empty());
-            met.declined += u64::from(!wanted.contains("\ndeclined=0\n"));
-            lines = wanted[place..].to_string();
+            met.declined += u64::from(rust.n("declined") > 0);
+            squares = wanted[wanted.find("t=").expect("a form")..].to_string();
+        } else if rust.n("answer") != 7 {
+            return Ok(Some(format!("{text}  is turned away by line {}", rust.n("answer"))));
         }
+        last = Record::new("reorder_schur").num("n", n).list("t", t.to_vec()).list("u", u.to_vec());
     }
     Ok(None)
 }
@@ -182,6 +189,7 @@ fn wrong(case: &Record, rust: &Record, ours: &Record) -> Option<String> {
 mod tests {
     use super::*;
     use crate::generate::USUAL;
+    use crate::record::Value;
 
     fn rust(case: &Record) -> Option<Record> {
         Some(calls::unsettled(case).0)
@@ -208,12 +216,17 @@ mod tests {
         }
     }
 
+    fn by_rust(text: &[u8]) -> Vec<u8> {
+        let case = Record::new("sheet").with("text", Value::Bytes(text.to_vec()));
+        calls::answer(&case).0.bytes("text").to_vec()
+    }
+
     /// The Rust's sheets alone: nothing is wrong, and all that a chain of sheets may meet is met.
     #[test]
     fn the_rust_takes_back_its_sheets() {
         let mut met = Sheets::default();
         for index in 0..100 {
-            assert_eq!(sheets(5, index, USUAL, |text| Ok(sheet::run(text)), &mut met).unwrap(), None);
+            assert_eq!(sheets(5, index, USUAL, |text| Ok(by_rust(text)), &mut met).unwrap(), None);
         }
         assert_eq!(met.sheets, 100 * LENGTH);
         let Sheets { accepted, with_nan, with_factor, declined, .. } = met;
@@ -225,7 +238,7 @@ mod tests {
     #[test]
     fn a_wrong_sheet_is_told() {
         let without_signs = |text: &[u8]| {
-            let right = String::from_utf8(sheet::run(text)).unwrap();
+            let right = String::from_utf8(by_rust(text)).unwrap();
             Ok(right.replace("8000000000000000", "0000000000000000").into_bytes())
         };
         let always_2 = |_: &[u8]| Ok(b"answer=2\n".to_vec());

@@ -61,9 +61,7 @@ fn main() -> ExitCode {
         ["compare", call, count, seed, ref options @ ..] => {
             plan(call, count, seed, options).and_then(|p| compare::run(&p))
         }
-        ["chains", count, seed, ref options @ ..] => {
-            plan("all", count, seed, options).and_then(|p| chains::run(&p))
-        }
+        ["chains", count, seed, ref options @ ..] => plan("all", count, seed, options).and_then(|p| chains::run(&p)),
         ["scale"] => scale::run(scale::SEED, false),
         ["scale", "--each"] => scale::run(scale::SEED, true),
         ["scale", seed] => number(seed).and_then(|seed| scale::run(seed, false)),

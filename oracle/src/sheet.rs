@@ -28,18 +28,17 @@ pub fn run(text: &[u8]) -> Vec<u8> {
 fn answer(sheet: Sheet) -> Result<String, usize> {
     let Sheet { n, from, to, mut t, mut u } = sheet;
     refuse::reorder(MOST_ROWS, n, &t, &u, from, to)?;
-    Ok(moved(n, &mut t, &mut u, from, to))
+    let notes = run_move(n, &mut t, &mut u, from, to);
+    Ok(of_move([notes.here, notes.swaps, notes.declined], &t, &u))
 }
 
-/// The six lines of an accepted move, which is made on the form and the factor.
-pub fn moved(n: usize, t: &mut [f64], u: &mut [f64], from: usize, to: usize) -> String {
-    let notes = run_move(n, t, u, from, to);
-    let counts = format!("answer=0\nlanded={}\nswaps={}\ndeclined={}\n", notes.here, notes.swaps, notes.declined);
-    counts + &lines(t, u)
+/// The six lines of an accepted move: landed, swaps and declined, its form and its factor.
+pub fn of_move([landed, swaps, declined]: [usize; 3], t: &[f64], u: &[f64]) -> String {
+    format!("answer=0\nlanded={landed}\nswaps={swaps}\ndeclined={declined}\n{}", squares(t, u))
 }
 
 /// The two lines of a form and a factor, the same in a request and in a sheet.
-pub fn lines(t: &[f64], u: &[f64]) -> String {
+pub fn squares(t: &[f64], u: &[f64]) -> String {
     format!("t={}\nu={}\n", words(t), words(u))
 }
 

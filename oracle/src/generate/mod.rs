@@ -122,11 +122,11 @@ pub fn chain(rng: &mut Rng, sizes: Sizes) -> Record {
     if rng.one_in(3) { case } else { strides::spread(rng, &case) }
 }
 
-/// The same to begin a chain of sheets with: n, the form and a factor, or none.
-pub fn sheets(rng: &mut Rng, sizes: Sizes) -> (usize, Vec<f64>, Vec<f64>) {
+/// The same to begin a chain of sheets with: a case without a stride, and with a factor or none.
+pub fn sheets(rng: &mut Rng, sizes: Sizes) -> Record {
     let first = chain(rng, sizes);
     let n = first.n("n");
-    (n, stride::form(&first), factor(rng, n))
+    Record::new("reorder_schur").num("n", n).list("t", stride::form(&first)).list("u", factor(rng, n))
 }
 
 /// A move, a move that stops or an exchange on the form of a case, with its stride if it has one. One
