@@ -1,12 +1,13 @@
 -- The claims on chains of calls. Assumes nothing.
 use mathlib.Core.Path.{◌≡◌, refl, ap, ap₂, ◌∙◌}
 use Prim.Native.Nat.{ℕ, zero, suc, ◌+◌, ◌*◌}
-use mathlib.Core.Bool.{Bool, true, false, not, cond}
+use mathlib.Core.Bool.{false, not, cond}
 use mathlib.Core.List.{List, [], ◌∷◌}
 use lib.Dec.{eqb}
 use lib.ListN.{length, length-set}
 use lib.Ieee.{Float, Format}
 use borrow.Author.Tests.{eqb-true}
+use Rattle.std.proofs.lemmas.Bool.{cond_both}
 use Rattle.model.specs.Lines.{first_of}
 use Rattle.model.specs.Form.{nonzero_below, line2, line17, line3, line4, position}
 use Rattle.model.specs.Exchange.{Exchanged, exchange_line, exchange_call}
@@ -27,11 +28,7 @@ use Rattle.laws_shape.proofs.Meets.{exchange-goes, walk_far}
 -- ---- a call keeps the shape, and the numbers those of the format, turned away or not
 
 by_line : {A : Type 0} (P : A → Type 0) (line : ℕ) (x y : A) → (line ≡ 0 → P x) → P y → P (cond (eqb line 0) x y)
-by_line P line x y h k = go (eqb line 0) refl
-  where
-    go : (b : Bool) → eqb line 0 ≡ b → P (cond b x y)
-    go true e = h (eqb-true line 0 e)
-    go false e = k
+by_line P line x y h k = cond_both (eqb line 0) x y P (λ e. h (eqb-true line 0 e)) (λ _. k)
 
 -- what a form e keeps of an accepted form t
 record Back (f : Format) (ld n : ℕ) (t e : List Float) : Type 0 where

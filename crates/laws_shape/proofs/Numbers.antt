@@ -1,13 +1,14 @@
 -- Numbers of a format stay such: what an operation, a swap or standardising writes is rounded, is a zero, or stood in the form before. Assumes nothing.
 use Prim.Native.Nat.{ℕ, zero, suc, ◌+◌, ◌-◌}
 use native.Mathlib.Omega.{arith}
-use mathlib.Core.Bool.{Bool, true, false, cond}
+use mathlib.Core.Bool.{Bool, cond}
 use mathlib.Core.List.{List, [], ◌∷◌}
 use lib.Dec.{T, eqb}
 use lib.ListN.{set}
 use lib.Ieee.{Float, Format, eq, fits}
 use lib.Ieee.Fits.{nan-fits, neg-fits, add-fits, sub-fits, mul-fits}
 use lib.Ieee.Bits.{of_bits-fits}
+use Rattle.std.proofs.lemmas.Bool.{cond_both}
 use Rattle.model.specs.Arith.{zero_of}
 use Rattle.model.specs.Form.{at}
 use Rattle.model.specs.Jacobi.{Rotation, apply_right}
@@ -17,10 +18,9 @@ use Rattle.model.specs.Swaps.{Change, swap11, swap12, swap21, window_at, solutio
 use Rattle.model.specs.Stopping.{exchanged_b}
 use Rattle.laws_shape.specs.Numbers.{InFormat}
 
--- one of two
+-- what holds of both holds of one of two
 pub either : {A : Type 0} (P : A → Type 0) (b : Bool) (x y : A) → P x → P y → P (cond b x y)
-either P true x y p q = p
-either P false x y p q = q
+either P b x y p q = cond_both b x y P (λ _. p) (λ _. q)
 
 module _ (f : Format) where
   -- the numbers at all places; beyond the end a NaN is read

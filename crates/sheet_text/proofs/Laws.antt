@@ -1,6 +1,6 @@
 -- A text is that of one request, which is found, and what was printed reads back, as the next request too. Assumes nothing.
 use mathlib.Core.Path.{◌≡◌, refl, sym, ap, ap₂, ◌∙◌}
-use mathlib.Core.Bool.{Bool, true, false, not, ◌||◌, cond, true≢false}
+use mathlib.Core.Bool.{Bool, true, false, not, ◌||◌, true≢false}
 use mathlib.Core.List.{List, [], ◌∷◌, ◌++◌}
 use Prim.Native.Nat.{ℕ, zero, suc, ◌*◌, ◌^◌, ◌≤◌, ◌<◌}
 use native.Mathlib.Nat.{mul-le-mul_left}
@@ -10,10 +10,11 @@ use lib.ListN.{length, length-append, length-map}
 use lib.Ieee.{Float, binary64, fits, is_nan, of_bits}
 use lib.Ieee.Bits.{of_bits-to_bits, of_bits-fits, to_bits-lt}
 use borrow.Author.Tests.{eqb-true, le-ltb}
+use Rattle.std.proofs.lemmas.Bool.{cond_both}
 use Rattle.model.specs.Ascii.{ascii}
 use Rattle.model.specs.Lines.{first_of}
 use Rattle.model.specs.Form.{line2, line17, line3, line4}
-use Rattle.model.specs.Move.{moved, move, move_line, move_call}
+use Rattle.model.specs.Move.{move_line, Moved, move_call}
 use Rattle.model.specs.Text.{Request, text_of, InBounds, words, word_of, words_of, numbers, request_of, laid_out, printed, answer_line, sheet_of}
 use Rattle.laws.proofs.InOrder.{passed}
 use Rattle.laws_moves.proofs.Upper.{or_left}
@@ -119,14 +120,9 @@ numbers_fit (w ∷ ws) (suc i) l = numbers_fit ws i (omega arith)
 -- 0 is the answer where no line is told
 made : (n from to : ℕ) (t u : List Float) → (move_call binary64 n n t u from to).answer ≡ 0 → move_line binary64 n n t u from to ≡ 0
 unfolding move_call
-made n from to t u = by (eqb line 0) refl
-  where
-    line : ℕ
-    line = move_line binary64 n n t u from to
-
-    by : (b : Bool) → eqb line 0 ≡ b → (cond b (moved binary64 n n u (move binary64 n n from to t)) (record { answer = line; landed = 0; swaps = 0; declined = 0; form = t; factor = u })).answer ≡ 0 → line ≡ 0
-    by true e h = eqb-true line 0 e
-    by false e h = h
+made n from to t u =
+    let line = move_line binary64 n n t u from to in
+    cond_both (eqb line 0) _ _ (λ (m : Moved). m.answer ≡ 0 → line ≡ 0) (λ e h. eqb-true line 0 e) (λ e h. h)
 
 -- the factor's length is then right
 factor_right : (n from to : ℕ) (t u : List Float) → move_line binary64 n n t u from to ≡ 0 → line4 n n u ≡ false
