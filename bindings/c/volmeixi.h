@@ -30,8 +30,8 @@
  * form is refused: NaN, infinities and subnormals are worked with.
  *
  * What a call gives back can be sent to any call again: after any moves and exchanges an accepted
- * form is accepted, so that a later call is turned away for its own arguments alone. The form and
- * the single results are the same with a factor of any content and with none.
+ * form is still accepted, so that a later call is turned away for its own arguments alone. The form
+ * and the single results are the same with a factor of any content and with none.
  */
 #ifndef VOLMEIXI_H
 #define VOLMEIXI_H

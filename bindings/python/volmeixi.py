@@ -13,7 +13,7 @@ makes have no gaps; they are NumPy's where the form is, and array('d') otherwise
 turned away raises Refusal and has changed no buffer.
 
 What a call gives back can be sent to any call again: after any moves and exchanges an accepted form
-is accepted, so that a later call is turned away for its own arguments alone. The form and the
+is still accepted, so that a later call is turned away for its own arguments alone. The form and the
 results are the same with a factor of any content and with none.
 
 A form, factor or vectors may stand in the corner of a larger array. What stands beside them has no

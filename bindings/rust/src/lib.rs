@@ -9,8 +9,8 @@
 //! standardised first.
 //!
 //! What a call gives back can be sent to any call again: after any moves and exchanges an accepted
-//! form is accepted, so that a later call is turned away for its own arguments alone. The form and
-//! the results are the same with a factor of any content and with none.
+//! form is still accepted, so that a later call is turned away for its own arguments alone. The
+//! form and the results are the same with a factor of any content and with none.
 //!
 //! For a form in the corner of a larger array, [`View`] and [`ViewMut`] have the same calls with a
 //! stride, where row i, column j stands at i + stride × j. One stride, n to 128, serves all buffers

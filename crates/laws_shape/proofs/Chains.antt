@@ -25,24 +25,25 @@ use Rattle.laws_shape.proofs.Shape.{Shape, shape, accepted, no_line3, no_line5, 
 use Rattle.laws_shape.proofs.Exchanges.{Lawful, goes_on_lawful, stopping_lawful}
 use Rattle.laws_shape.proofs.Meets.{exchange-goes, walk_far}
 
--- ---- a call keeps the shape, and the numbers those of the format, turned away or not
+-- ---- a call keeps the shape, and keeps numbers of the format such, turned away or not
 
 by_line : {A : Type 0} (P : A → Type 0) (line : ℕ) (x y : A) → (line ≡ 0 → P x) → P y → P (cond (eqb line 0) x y)
 by_line P line x y h k = cond_both (eqb line 0) x y P (λ e. h (eqb-true line 0 e)) (λ _. k)
 
--- what a form e keeps of an accepted form t
+-- what a form e keeps of a form t
 record Back (f : Format) (ld n : ℕ) (t e : List Float) : Type 0 where
-  shape : Shape f ld n e
+  shape : Shape f ld n t → Shape f ld n e
   numbers : Numbers f t → Numbers f e
 
-module _ (f : Format) (ld n : ℕ) (t u : List Float) (s : Shape f ld n t) where
+module _ (f : Format) (ld n : ℕ) (t u : List Float) where
   same : Back f ld n t t
-  same = record { shape = s; numbers = λ m. m }
+  same = record { shape = λ s. s; numbers = λ m. m }
 
   by_keeps : (k : Kind) → Lawful k f ld n → (from to : ℕ) → Back f ld n t (call_by k f ld n t u from to).form
   unfolding call_by
   by_keeps k L from to =
-      by_line (λ (r : Stopped). Back f ld n t r.form) (move_line f ld n t u from to) _ _ (λ h. let w = walk_far k f ld n L t u from to h in record { shape = w.shape; numbers = w.numbers }) same
+      by_line (λ (r : Stopped). Back f ld n t r.form) (move_line f ld n t u from to) _ _
+      (λ h. let w = walk_far k f ld n L t u from to h in record { shape = λ s. w.shape; numbers = w.numbers }) same
 
   move_keeps : (from to : ℕ) → Back f ld n t (move_call f ld n t u from to).form
   move_keeps from to = rw (move_is_call f ld n t u from to) (by_keeps (goes_on f ld n) (goes_on_lawful f ld n) from to)
@@ -54,21 +55,22 @@ module _ (f : Format) (ld n : ℕ) (t u : List Float) (s : Shape f ld n t) where
   exchange_keeps : (j n1 n2 : ℕ) → Back f ld n t (exchange_call f ld n t u j n1 n2).form
   unfolding exchange_call
   exchange_keeps j n1 n2 =
-      by_line (λ (r : Exchanged). Back f ld n t r.form) (exchange_line f ld n t u j n1 n2) _ _ (λ h. let w = exchange-goes f ld n t u j n1 n2 h in record { shape = w.kept.shape; numbers = w.numbers }) same
+      by_line (λ (r : Exchanged). Back f ld n t r.form) (exchange_line f ld n t u j n1 n2) _ _
+      (λ h. let w = exchange-goes f ld n t u j n1 n2 h in record { shape = λ s. w.kept.shape; numbers = w.numbers }) same
 
-call_keeps : (f : Format) (ld n : ℕ) (t : List Float) (c : Call) → Shape f ld n t → Back f ld n t (called f ld n t c).form
+call_keeps : (f : Format) (ld n : ℕ) (t : List Float) (c : Call) → Back f ld n t (called f ld n t c).form
 unfolding called
-call_keeps f ld n t (a_move from to u) s = move_keeps f ld n t u s from to
-call_keeps f ld n t (a_stop from to u) s = stopping_keeps f ld n t u s from to
-call_keeps f ld n t (an_exchange j n1 n2 u) s = exchange_keeps f ld n t u s j n1 n2
+call_keeps f ld n t (a_move from to u) = move_keeps f ld n t u from to
+call_keeps f ld n t (a_stop from to u) = stopping_keeps f ld n t u from to
+call_keeps f ld n t (an_exchange j n1 n2 u) = exchange_keeps f ld n t u j n1 n2
 
-chain_keeps : (f : Format) (ld n : ℕ) (cs : List Call) (t : List Float) → Shape f ld n t → Back f ld n t (form_after f ld n cs t)
+chain_keeps : (f : Format) (ld n : ℕ) (cs : List Call) (t : List Float) → Back f ld n t (form_after f ld n cs t)
 unfolding form_after
-chain_keeps f ld n [] t s = same f ld n t [] s
-chain_keeps f ld n (c ∷ cs) t s =
-    let x = call_keeps f ld n t c s in
-    let y = chain_keeps f ld n cs (called f ld n t c).form x.shape in
-    record { shape = y.shape; numbers = λ m. y.numbers (x.numbers m) }
+chain_keeps f ld n [] t = same f ld n t []
+chain_keeps f ld n (c ∷ cs) t =
+    let x = call_keeps f ld n t c in
+    let y = chain_keeps f ld n cs (called f ld n t c).form in
+    record { shape = λ s. y.shape (x.shape s); numbers = λ m. y.numbers (x.numbers m) }
 
 -- ---- claim 1
 
@@ -85,7 +87,7 @@ own-lines f ld n t s =
 pub sent_back_lem : SentBack
 sent_back_lem f ld n t cs h =
     let e = form_after f ld n cs t in
-    let s = (chain_keeps f ld n cs t (shape f ld n t h)).shape in
+    let s = (chain_keeps f ld n cs t).shape (shape f ld n t h) in
     record { deep = no_line5 f ld n e s; touching = no_line6 f ld n e s; accepted = accepted f ld n e s; own = own-lines f ld n e s }
 
 -- ---- the buffers
@@ -143,7 +145,7 @@ factor_stays f ld n t (an_exchange j n1 n2 u) h = either (λ (r : Exchanged). Nu
 pub numbers_stay : NumbersStay
 numbers_stay =
     record {
-      form = λ f ld n t cs h m i l. (chain_keeps f ld n cs t (shape f ld n t h)).numbers (numbers-of f t m) i;
+      form = λ f ld n t cs m i l. (chain_keeps f ld n cs t).numbers (numbers-of f t m) i;
       factor = λ f ld n t c m i l. factor_stays f ld n t c (numbers-of f _ m) i;
     }
 

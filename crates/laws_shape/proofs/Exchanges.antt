@@ -1,4 +1,4 @@
--- An exchange of either kind, where no 2-block lies across its edges: it is made of steps that fit, keeps the shape of the form, its numbers those of the format, and the edges outside, and leaves none across the edge between the two blocks in their new order. Assumes nothing.
+-- An exchange of either kind, where no 2-block lies across its edges: it is made of steps that fit, keeps the shape of the form and the edges outside, keeps numbers of the format such, and leaves none across the edge between the two blocks in their new order. Assumes nothing.
 use mathlib.Core.Path.{◌≡◌, refl, ◌∙◌}
 use Prim.Native.Nat.{ℕ, zero, suc, ◌+◌, ◌≤◌, ◌<◌}
 use native.Mathlib.Decide.{ℕ_discrete}
@@ -87,12 +87,13 @@ module _ (f : Format) (ld n : ℕ) where
       let x = swap_keeps f ld n t s j n1 n2 e.room e.upper e.middle e.lower in
       record { goes = record { steps = swap_steps j t n1 n2 e; kept = x.0; numbers = swap_numbers f ld n j n1 n2 t }; middle = x.1 }
 
-  -- ---- standardised if there are two rows, to whatever is made of the block, of numbers of the format if its own are
+  -- ---- standardised if there are two rows, to whatever is made of the block
 
-  abbrev Blockwise : (Block → Block) → Type 0
-  Blockwise g = (x : Block) → BlockNumbers f x → BlockNumbers f (g x)
+  -- of a block with numbers of the format g makes another such
+  abbrev KeepsNumbers : (Block → Block) → Type 0
+  KeepsNumbers g = (x : Block) → BlockNumbers f x → BlockNumbers f (g x)
 
-  standard-goes : (g : Block → Block) → Blockwise g → (size j : ℕ) (t : List Float) → Shape f ld n t → size ≤ 2 → j + size ≤ n → Cut f ld n t j → Cut f ld n t (j + size) → Goes f ld n j (j + size) t (standardise_with g f ld n size j t)
+  standard-goes : (g : Block → Block) → KeepsNumbers g → (size j : ℕ) (t : List Float) → Shape f ld n t → size ≤ 2 → j + size ≤ n → Cut f ld n t j → Cut f ld n t (j + size) → Goes f ld n j (j + size) t (standardise_with g f ld n size j t)
   unfolding standardise_with
   standard-goes g w size j t s l h cj cb =
       elim (ℕ_discrete size 2) [
@@ -104,7 +105,7 @@ module _ (f : Format) (ld n : ℕ) where
 
   -- ---- one swap, then the new upper block standardised, then the lower
 
-  with_trades : (g : Block → Block) → Blockwise g → (j n1 n2 : ℕ) (t : List Float) → Shape f ld n t → Edges f ld n t j n1 n2 → Trades f ld n j n1 n2 t (swap_with g f ld n j n1 n2 t)
+  with_trades : (g : Block → Block) → KeepsNumbers g → (j n1 n2 : ℕ) (t : List Float) → Shape f ld n t → Edges f ld n t j n1 n2 → Trades f ld n j n1 n2 t (swap_with g f ld n j n1 n2 t)
   unfolding swap_with and_then
   with_trades g w j n1 n2 t s e =
       let k = e.room in

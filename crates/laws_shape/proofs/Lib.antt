@@ -1,4 +1,4 @@
--- The proofs about the shape of a form.
+-- The proofs about the shape of a form, its numbers, and the buffers beside it.
 pub mod Numbers
 pub mod Within
 pub mod Shape

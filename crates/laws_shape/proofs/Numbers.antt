@@ -1,4 +1,4 @@
--- Numbers of a format stay such: what an operation, a swap or standardising writes is rounded, is a zero, or stood in the form before. Assumes nothing.
+-- Numbers of a format stay such: what an operation, a swap or standardising writes is rounded, is a zero, or stood in the form before or is that negated. Assumes nothing.
 use Prim.Native.Nat.{ℕ, zero, suc, ◌+◌, ◌-◌}
 use native.Mathlib.Omega.{arith}
 use mathlib.Core.Bool.{Bool, cond}
@@ -18,7 +18,7 @@ use Rattle.model.specs.Swaps.{Change, swap11, swap12, swap21, window_at, solutio
 use Rattle.model.specs.Stopping.{exchanged_b}
 use Rattle.laws_shape.specs.Numbers.{InFormat}
 
--- what holds of both holds of one of two
+-- what holds of both holds of the one that is chosen
 pub either : {A : Type 0} (P : A → Type 0) (b : Bool) (x y : A) → P x → P y → P (cond b x y)
 either P b x y p q = cond_both b x y P (λ _. p) (λ _. q)
 

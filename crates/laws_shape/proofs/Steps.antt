@@ -8,6 +8,7 @@ use mathlib.Core.List.{List, [], ◌∷◌, ◌++◌}
 use lib.Dec.{eqb}
 use lib.Ieee.{Float, Format}
 use borrow.Author.Tests.{le-ltb, ltb-false}
+use Rattle.std.proofs.lemmas.Bool.{cond_both}
 use Rattle.model.specs.Schur22.{Block}
 use Rattle.model.specs.Swaps.{Swap, Change, unchanged, and_then, declining, swap_of, standardise_by}
 use Rattle.model.specs.Exchange.{line8, line9, crosses, line10}
@@ -15,7 +16,6 @@ use Rattle.laws_moves.proofs.Upper.{or_left, or_right}
 use Rattle.laws_stride.proofs.Lines.{sizes}
 use Rattle.laws_stride.proofs.Changes.{Room}
 use Rattle.laws_shape.specs.Steps.{Step, runs, standardises, stepped, stepped_by, runs_of, RunFits, RowsFit, Fits, AllFit, StepsKeep, Stepwise}
-use Rattle.laws_shape.proofs.Numbers.{either}
 use Rattle.laws_shape.proofs.Shape.{Cut, Shape, shape, accepted}
 use Rattle.laws_shape.proofs.Swapped.{swap_keeps, standardise_keeps}
 
@@ -60,7 +60,7 @@ step_keeps : (f : Format) (ld n : ℕ) (t : List Float) (s : Step) → Shape f l
 unfolding stepped Fits
 step_keeps f ld n t (runs r) h k =
     let e = edges-of f ld n t r k in
-    either (Shape f ld n) r.declined t _ h (swap_keeps f ld n t h r.row r.n1 r.n2 e.room e.upper e.middle e.lower).0.shape
+    cond_both r.declined t _ (Shape f ld n) (λ _. h) (λ _. (swap_keeps f ld n t h r.row r.n1 r.n2 e.room e.upper e.middle e.lower).0.shape)
 step_keeps f ld n t (standardises j b) h k = (standardise_keeps f ld n t h j b k.rows k.upper k.lower).shape
 
 steps_shape : (f : Format) (ld n : ℕ) (t : List Float) (ss : List Step) → Shape f ld n t → AllFit f ld n t ss → Shape f ld n (stepped_by f ld n ss t)

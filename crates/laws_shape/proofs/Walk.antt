@@ -1,4 +1,4 @@
--- A move of either kind on an accepted form: each of its exchanges lies between edges that no 2-block lies across, after a decline too, so that what it has done is made of steps that fit, and the form keeps its shape, and its numbers are those of the format still. Assumes nothing.
+-- A move of either kind on an accepted form: each of its exchanges lies between edges that no 2-block lies across, after a decline too, so that what it has done is made of steps that fit, the form keeps its shape, and numbers of the format stay such. Assumes nothing.
 use mathlib.Core.Path.{◌≡◌, refl, ◌∙◌}
 use Prim.Native.Nat.{ℕ, zero, suc, ◌+◌, ◌-◌, ◌≤◌, ◌<◌}
 use native.Mathlib.Omega.{arith}

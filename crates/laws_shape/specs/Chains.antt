@@ -99,9 +99,9 @@ pub record BuffersSentBack : Type 0 where
   -- so a column of the vectors of an accepted form is refused for its number alone
   pub column : (f : Format) (ld n : ℕ) (t v : List Float) (col : ℕ) → vectors_line f ld n t v ≡ 0 → column_line ld n (evd_from_real_schur f ld n t v).v col ≡ first_of (position n col ∷ [])
 
--- and the numbers of form and factor stay numbers of the format, if they were: words for them can be written down, and read again
+-- and the numbers of form and factor stay numbers of the format, if they were, whatever the form: words for them can be written down, and read again
 pub record NumbersStay : Type 0 where
-  pub form : (f : Format) (ld n : ℕ) (t : List Float) (cs : List Call) → form_line f ld n t ≡ 0 → InFormat f t → InFormat f (form_after f ld n cs t)
+  pub form : (f : Format) (ld n : ℕ) (t : List Float) (cs : List Call) → InFormat f t → InFormat f (form_after f ld n cs t)
   pub factor : (f : Format) (ld n : ℕ) (t : List Float) (c : Call) → InFormat f (factor_of c) → InFormat f (called f ld n t c).factor
 
 -- ---- claim 2: the same with a factor and without

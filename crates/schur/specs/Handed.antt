@@ -38,7 +38,7 @@ pub record HandedOver : Type 1 where
   pub strides : TwoStrides
   pub stride_is_n : StrideIsN
   pub like_base : LikeBase
-  -- after any chain of these calls and of the move that stops, the form, and the buffers beside it, can be sent to any call again, and its numbers are those of the format; form and answers are the same with a factor and without
+  -- after any chain of these calls and of the move that stops, the form, and the buffers beside it, can be sent to any call again, and numbers of the format stay such; form and answers are the same with a factor and without
   pub sent_back : SentBack
   pub buffers_sent_back : BuffersSentBack
   pub numbers_stay : NumbersStay

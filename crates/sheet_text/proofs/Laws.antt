@@ -1,4 +1,4 @@
--- A text is that of one request, which is found, and what was printed reads back, as the next request too. Assumes nothing.
+-- A text is that of one request, which is found, and what was printed reads back, in the next request too. Assumes nothing.
 use mathlib.Core.Path.{◌≡◌, refl, sym, ap, ap₂, ◌∙◌}
 use mathlib.Core.Bool.{Bool, true, false, not, ◌||◌, true≢false}
 use mathlib.Core.List.{List, [], ◌∷◌, ◌++◌}
@@ -13,7 +13,7 @@ use borrow.Author.Tests.{eqb-true, le-ltb}
 use Rattle.std.proofs.lemmas.Bool.{cond_both}
 use Rattle.model.specs.Ascii.{ascii}
 use Rattle.model.specs.Lines.{first_of}
-use Rattle.model.specs.Form.{line2, line17, line3, line4}
+use Rattle.model.specs.Form.{line2, line4}
 use Rattle.model.specs.Move.{move_line, Moved, move_call}
 use Rattle.model.specs.Text.{Request, text_of, InBounds, words, word_of, words_of, numbers, request_of, laid_out, printed, answer_line, sheet_of}
 use Rattle.laws.proofs.InOrder.{passed}
@@ -109,7 +109,7 @@ round_trip n from to xs ys a b c f g h k =
           (ap (λ (x : Request). numbers x.form) s ∙ numbers-back xs f, ap (λ (x : Request). numbers x.factor) s ∙ numbers-back ys g),
     )
 
--- ---- a sheet sent back in
+-- ---- the words of a sheet in the next request
 
 -- the numbers of words are those of the format
 numbers_fit : (ws : List ℕ) → InFormat binary64 (numbers ws)
@@ -122,16 +122,7 @@ made : (n from to : ℕ) (t u : List Float) → (move_call binary64 n n t u from
 unfolding move_call
 made n from to t u =
     let line = move_line binary64 n n t u from to in
-    cond_both (eqb line 0) _ _ (λ (m : Moved). m.answer ≡ 0 → line ≡ 0) (λ e h. eqb-true line 0 e) (λ e h. h)
-
--- the factor's length is then right
-factor_right : (n from to : ℕ) (t u : List Float) → move_line binary64 n n t u from to ≡ 0 → line4 n n u ≡ false
-unfolding move_line first_of
-factor_right n from to t u h =
-    let p2 = passed (line2 n) 1 _ h in
-    let p17 = passed (line17 n n) 16 _ p2.1 in
-    let p3 = passed (line3 n n t) 2 _ p17.1 in
-    (passed (line4 n n u) 3 _ p3.1).0
+    cond_both (eqb line 0) _ _ (λ (m : Moved). m.answer ≡ 0 → line ≡ 0) (λ e _. eqb-true line 0 e) (λ _ h. h)
 
 square : (n : ℕ) → n ≤ 32 → n * n ≤ 1024
 square n h = omega (arith, mul-le-mul_left n h)
@@ -157,14 +148,16 @@ sheets_go_on r from to k a x y =
     let u = numbers r.factor in
     let line = made r.n r.from r.to t u a in
     let form = move-accepted binary64 r.n r.n t u r.from r.to line in
+    let own = (sent_back_lem binary64 r.n r.n t [] form).own.moves u r.from r.to in
+    let lent : line4 r.n r.n u ≡ false = (passed (line4 r.n r.n u) 3 _ (sym own ∙ line)).0 in
     let c = a_move r.from r.to u in
     let m = move_call binary64 r.n r.n t u r.from r.to in
     let s : CanBeSent binary64 r.n r.n m.form = sent_back_lem binary64 r.n r.n t (c ∷ []) form in
     let z = shape binary64 r.n r.n m.form s.accepted in
-    let fit : InFormat binary64 m.form = numbers_stay.form binary64 r.n r.n t (c ∷ []) form (numbers_fit r.form) in
+    let fit : InFormat binary64 m.form = numbers_stay.form binary64 r.n r.n t (c ∷ []) (numbers_fit r.form) in
     let fit' : InFormat binary64 m.factor = numbers_stay.factor binary64 r.n r.n t c (numbers_fit r.factor) in
     let long : length m.factor ≡ length u = buffers-sent_back.factor binary64 r.n r.n t c in
-    let l4 : line4 r.n r.n m.factor ≡ false = rw long (factor_right r.n r.from r.to t u line) in
+    let l4 : line4 r.n r.n m.factor ≡ false = rw long lent in
     let q = sent_back r.n from to m.form m.factor in
     let i : InBounds q = (round_trip r.n from to m.form m.factor (omega arith) x y fit fit' (omega (arith, z.size, square r.n k)) (factor_few r.n m.factor k l4)).0 in
     record {

@@ -37,18 +37,18 @@ RoundTrip =
     → InBounds (sent_back n from to xs ys)
     × ((q : Request) → InBounds q → text_of q ≡ text_of (sent_back n from to xs ys) → (numbers q.form ≡ xs) × (numbers q.factor ≡ ys))
 
--- ---- a sheet sent back in as the next request
+-- ---- the words of a sheet in the next request
 
 -- the move of a request
 abbrev pub move_of : Request → Moved
 move_of r = move_call binary64 r.n r.n (numbers r.form) (numbers r.factor) r.from r.to
 
--- After a move m, the words that its sheet has may be sent in with two positions: the sheet of that text is the move of the form and the factor as m left them, and no line but 7, for a position, turns it away.
+-- After a move m, the words that are printed for its form and factor may be sent in, with the same n and two positions: the sheet of that text is the move of the form and the factor as m left them, and no line but 7, for a position, turns it away.
 pub record GoesOn (n : ℕ) (m : Moved) (from to : ℕ) : Type 0 where
   pub in_bounds : InBounds (sent_back n from to m.form m.factor)
   pub sheet : sheet_of (text_of (sent_back n from to m.form m.factor)) ≡ printed_move (move_call binary64 n n m.form m.factor from to)
   pub own : move_line binary64 n n m.form m.factor from to ≡ first_of (position n from ∷ position n to ∷ [])
 
--- and so one sheet after the other, each from what the one before printed
+-- After every accepted move of at most 32 rows, whose sheet has these words, and with positions below 10,000. So it goes on, request after request.
 abbrev pub SheetsGoOn : Type 0
 SheetsGoOn = (r : Request) (from to : ℕ) → r.n ≤ 32 → (move_of r).answer ≡ 0 → from < 10 ^ 4 → to < 10 ^ 4 → GoesOn r.n (move_of r) from to

@@ -2,7 +2,8 @@
 use Rattle.laws_moves.proofs.Lists.{lists_of_moves}
 use Rattle.laws_moves.proofs.BothKinds.{stopping_on_triangular}
 use Rattle.laws_stride.proofs.Strides.{rows-beyond, two-strides}
-use Rattle.laws_shape.proofs.Meets.{never_across_lem}
+use Rattle.laws_shape.proofs.Steps.{steps_keep_lem}
+use Rattle.laws_shape.proofs.Meets.{all-stepwise, never_across_lem}
 use Rattle.laws_shape.proofs.Chains.{sent_back_lem, buffers-sent_back, numbers_stay, same_without_lem}
 use Rattle.laws_stopping.proofs.Control.{one-control}
 use Rattle.laws_stopping.proofs.Stops.{stops_exactly, call-stops}
@@ -28,5 +29,7 @@ handed_over =
       buffers_sent_back = buffers-sent_back;
       numbers_stay = numbers_stay;
       same_without = same_without_lem;
+      steps_keep = steps_keep_lem;
+      stepwise = all-stepwise;
       never_across = never_across_lem;
     }

@@ -4,6 +4,7 @@ use Rattle.laws_moves.specs.Lists.{ListsOfMoves}
 use Rattle.laws_moves.specs.Kinds.{StoppingOnTriangular}
 use Rattle.laws_stride.specs.Beyond.{RowsBeyond}
 use Rattle.laws_stride.specs.Strides.{TwoStrides}
+use Rattle.laws_shape.specs.Steps.{StepsKeep, AllStepwise}
 use Rattle.laws_shape.specs.Meets.{NeverAcross}
 use Rattle.laws_shape.specs.Chains.{SentBack, BuffersSentBack, NumbersStay, SameWithout}
 use Rattle.laws_stopping.specs.Control.{OneControl}
@@ -29,9 +30,12 @@ pub record HandedOver : Type 0 where
   -- rows from n on stay, and two strides give the same
   pub beyond : RowsBeyond
   pub strides : TwoStrides
-  -- what it gives back can be sent to any call again, stopped or not, buffers too, and its numbers are those of the format; the same with a factor and without; and no exchange of it is across a 2-block
+  -- what it gives back can be sent to any call again, stopped or not, buffers too, and numbers of the format stay such; the same with a factor and without
   pub sent_back : SentBack
   pub buffers_sent_back : BuffersSentBack
   pub numbers_stay : NumbersStay
   pub same_without : SameWithout
+  -- each run leaves an accepted form, and no exchange of it is across a 2-block
+  pub steps_keep : StepsKeep
+  pub stepwise : AllStepwise
   pub never_across : NeverAcross
