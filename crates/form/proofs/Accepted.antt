@@ -10,7 +10,7 @@ use lib.Ieee.{Float, binary64}
 use Rattle.model.specs.Form.{line2, line17, line3, line4, line5, line6, line7}
 use Rattle.model.specs.Exchange.{line8, line9, line10, exchange_line}
 use Rattle.model.specs.Move.{move_line}
-use Rattle.form.specs.Lines.{size_line, shape_line, further_line}
+use Rattle.form.specs.Lines.{size_line, shape_line, further_line, positions_line}
 
 -- ---- tests one after another: the number, one more than k, of the first that applies, and else the rest
 abbrev pub chain : List (Bool × ℕ) → ℕ → ℕ
@@ -33,8 +33,8 @@ module _ (ld n : ℕ) (t u : List Float) where
   abbrev of_form : List (Bool × ℕ)
   of_form = (line2 n, 1) ∷ (line17 ld n, 16) ∷ (line3 ld n t, 2) ∷ (line4 ld n u, 3) ∷ (line5 binary64 ld n t, 4) ∷ (line6 binary64 ld n t, 5) ∷ []
 
-  pub move_on : (from to l : ℕ) → l ≡ further_line ld n t (line4 ld n u) → move_line binary64 ld n t u from to ≡ cond (eqb l 0) (cond (line7 n from) 7 (cond (line7 n to) 7 0)) l
-  unfolding move_line further_line
+  pub move_on : (from to l : ℕ) → l ≡ further_line ld n t (line4 ld n u) → move_line binary64 ld n t u from to ≡ cond (eqb l 0) (positions_line n from to) l
+  unfolding move_line further_line positions_line
   move_on from to l e =
       onward of_form (cond (line7 n from) 7 (cond (line7 n to) 7 0))
       ∙ ap (λ (z : ℕ). cond (eqb z 0) (cond (line7 n from) 7 (cond (line7 n to) 7 0)) z) (sym e)

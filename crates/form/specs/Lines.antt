@@ -2,7 +2,7 @@
 use Rattle.std.specs.Prelude.{ℕ, Bool, ◌&&◌, ◌||◌, List, [], ◌∷◌, eqb, Float}
 use Rattle.std.specs.Float.{binary64}
 use Rattle.model.specs.Lines.{first_of}
-use Rattle.model.specs.Form.{row_count, stride, form_length, deep_entry, touching_blocks}
+use Rattle.model.specs.Form.{row_count, stride, form_length, deep_entry, touching_blocks, position}
 
 -- the first of lines 2, 17 and 3 that applies, or 0
 unfoldable pub size_line : ℕ → ℕ → List Float → ℕ
@@ -18,6 +18,11 @@ shape_line ld n t = first_of (deep_entry binary64 ld n t ∷ touching_blocks bin
 unfoldable pub further_line : ℕ → ℕ → List Float → Bool → ℕ
 unfolding first_of
 further_line ld n t wrong = first_of (row_count n ∷ stride ld n ∷ form_length ld n t ∷ record { number = 4; applies = wrong } ∷ deep_entry binary64 ld n t ∷ touching_blocks binary64 ld n t ∷ [])
+
+-- line 7 of a move, or 0
+unfoldable pub positions_line : ℕ → ℕ → ℕ → ℕ
+unfolding first_of
+positions_line n from to = first_of (position n from ∷ position n to ∷ [])
 
 -- line 8 does not apply
 abbrev pub sizes_fit : ℕ → ℕ → Bool

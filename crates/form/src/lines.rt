@@ -6,7 +6,7 @@ ghost use Rattle.model.specs.Exchange as Exchange;
 ghost use Rattle.model.specs.Move as Move;
 ghost use Rattle.refusal.specs.Line.{answer};
 ghost use Rattle.form.specs.Run.{Rows};
-ghost use Rattle.form.specs.Lines.{further_line, sizes_fit};
+ghost use Rattle.form.specs.Lines.{further_line, positions_line, sizes_fit};
 ghost use Rattle.form.specs.Shaped.{Holds, Beside, IsOf};
 
 use crate::deep::quasi_triangular;
@@ -16,7 +16,7 @@ use refusal::Refusal;
 // The shape of a form that none of lines 2, 17 and 3 to 6 turns away, nor its factor, or the first that does. No
 // factor is one of length 0, as document 01 has it.
 #[tactic(auto, using(crate::proofs::Accepted::further_first, refusal::proofs::Told::told), unfolding(model::specs::Form::line4))]
-fn accepted(n: usize, ld: usize, t: &[f64], u: &[f64]) -> Result<Shape, Refusal>
+pub fn accepted(n: usize, ld: usize, t: &[f64], u: &[f64]) -> Result<Shape, Refusal>
     ensures line { answer result ≡ further_line ld n t.now (line4 ld n u.now) }
     ensures shape { IfOk result (λ s. IsOf s n ld t.now × Beside s u.now) }
 {
@@ -28,8 +28,20 @@ fn accepted(n: usize, ld: usize, t: &[f64], u: &[f64]) -> Result<Shape, Refusal>
     Ok(s)
 }
 
-// The same with line 7 of a move.
-#[tactic(auto, using(crate::proofs::Accepted::move_on, refusal::proofs::Told::told), unfolding(model::specs::Form::line7))]
+// Line 7 of a move: a position is not below n.
+#[tactic(auto, unfolding(crate::specs::Lines::positions_line, model::specs::Form::line7))]
+pub fn positions(s: Shape, from: usize, to: usize) -> Result<(), Refusal>
+    ensures line { answer result ≡ positions_line s.n from to }
+    ensures inside { IfOk result (λ o. (from < s.n) × (to < s.n)) }
+{
+    if s.n <= from || s.n <= to {
+        return Err(Refusal::Position);
+    }
+    Ok(())
+}
+
+// The same lines with line 7 of a move.
+#[tactic(auto, using(crate::proofs::Accepted::move_on, refusal::proofs::Told::told))]
 pub fn accepted_move(
     n: usize,
     ld: usize,
@@ -42,9 +54,7 @@ pub fn accepted_move(
     ensures shape { IfOk result (λ s. IsOf s n ld t.now × Beside s u.now × (from < n) × (to < n)) }
 {
     let s = accepted(n, ld, t, u)?;
-    if n <= from || n <= to {
-        return Err(Refusal::Position);
-    }
+    positions(s, from, to)?;
     Ok(s)
 }
 

@@ -8,7 +8,7 @@ use Rattle.laws.specs.InOrder.{InOrder}
 
 pub in_order : InOrder
 unfolding first_of
-in_order b1 b2 b17 b3 b4 b5 b6 b7 b8 b9 b10 b11 = refl
+in_order b1 b12 b2 b17 b3 b4 b5 b6 b7 b8 b9 b10 b11 = refl
 
 -- where 0 is told, a line that is tested does not apply, and none after it does
 pub passed : (b : Bool) (k rest : ℕ) → cond b (suc k) rest ≡ 0 → (b ≡ false) × (rest ≡ 0)

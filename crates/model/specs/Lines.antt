@@ -9,7 +9,7 @@ pub record Line : Type 0 where
 
 -- the order in which the lines are tested
 unfoldable pub order : List ℕ
-order = 1 ∷ 2 ∷ 17 ∷ 3 ∷ 4 ∷ 5 ∷ 6 ∷ 7 ∷ 8 ∷ 9 ∷ 10 ∷ 11 ∷ []
+order = 1 ∷ 12 ∷ 2 ∷ 17 ∷ 3 ∷ 4 ∷ 5 ∷ 6 ∷ 7 ∷ 8 ∷ 9 ∷ 10 ∷ 11 ∷ []
 
 -- the number k where a line of that number applies, and else the rest
 unfoldable pub told_or : ℕ → List Line → ℕ → ℕ

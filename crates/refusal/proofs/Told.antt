@@ -4,7 +4,7 @@ use mathlib.Core.Bool.{false}
 use lib.Dec.{eqb}
 use Rattle.refusal.specs.Line.{line}
 use Rattle.refusal.specs.declared.Refusal.{Refusal}
-use Rattle.refusal.specs.declared.Refusal.TheVariants.{Text, RowCount, FormLength, BufferLength, DeepEntry, TouchingBlocks, Position, BlockSizes, RowsBeyond, AcrossBlock, TailLength, Stride}
+use Rattle.refusal.specs.declared.Refusal.TheVariants.{Text, RowCount, FormLength, BufferLength, DeepEntry, TouchingBlocks, Position, BlockSizes, RowsBeyond, AcrossBlock, TailLength, MoveList, Stride}
 
 pub told : (r : Refusal) → eqb (line r) 0 ≡ false
 told Text = refl
@@ -18,4 +18,5 @@ told BlockSizes = refl
 told RowsBeyond = refl
 told AcrossBlock = refl
 told TailLength = refl
+told MoveList = refl
 told Stride = refl

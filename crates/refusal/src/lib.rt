@@ -18,6 +18,7 @@ pub enum Refusal {
     RowsBeyond = 9,
     AcrossBlock = 10,
     TailLength = 11,
+    MoveList = 12,
     Stride = 17,
 }
 

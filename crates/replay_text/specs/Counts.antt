@@ -15,7 +15,7 @@ nothing = record { run = 0; differ = 0 }
 
 -- before the first line
 abbrev pub none : Tally
-none = record { calls = replicate 30 nothing; refused = 0 }
+none = record { calls = replicate 32 nothing; refused = 0 }
 
 -- a call's count
 abbrev pub of : Call → Tally → Count

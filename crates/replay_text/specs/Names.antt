@@ -2,7 +2,7 @@
 use Rattle.std.specs.Prelude.{ℕ, suc, cond, List, [], ◌∷◌, ◌++◌, length, drop, replicate, ◌==◌, nat_lt, Option, Some, None, find, option_and_then, bytes_eq}
 use Rattle.model.specs.Ascii.{ascii}
 use Rattle.replay_text.specs.declared.name.Call.{Call}
-use Rattle.replay_text.specs.declared.name.Call.TheVariants.{Abs, Abs1, Abs2, Recip, MulPow2, Fmax, Fmin, Sqrt, Hypot, NormL2, Rotg, Adjoint, Apply, MakeHouseholderInPlace, LahqrSchur22, Lasy2, SchurSwap, ReorderSchur, BlockValues, EvdFromRealSchur, Column, SchurSwapLd, ReorderSchurLd, BlockValuesLd, EvdFromRealSchurLd, ColumnLd, StandardisedValues, StandardisedValuesLd, ReorderSchurStopping, ReorderSchurStoppingLd}
+use Rattle.replay_text.specs.declared.name.Call.TheVariants.{Abs, Abs1, Abs2, Recip, MulPow2, Fmax, Fmin, Sqrt, Hypot, NormL2, Rotg, Adjoint, Apply, MakeHouseholderInPlace, LahqrSchur22, Lasy2, SchurSwap, ReorderSchur, BlockValues, EvdFromRealSchur, Column, SchurSwapLd, ReorderSchurLd, BlockValuesLd, EvdFromRealSchurLd, ColumnLd, StandardisedValues, StandardisedValuesLd, ReorderSchurStopping, ReorderSchurStoppingLd, ReorderSchurList, ReorderSchurListLd}
 
 abbrev pub name_of : Call → List ℕ
 name_of Abs = ascii "abs                         "
@@ -35,6 +35,8 @@ name_of StandardisedValues = ascii "standardised_values         "
 name_of StandardisedValuesLd = ascii "standardised_values_ld      "
 name_of ReorderSchurStopping = ascii "reorder_schur_stopping      "
 name_of ReorderSchurStoppingLd = ascii "reorder_schur_stopping_ld   "
+name_of ReorderSchurList = ascii "reorder_schur_list          "
+name_of ReorderSchurListLd = ascii "reorder_schur_list_ld       "
 
 -- all calls, in the order of the report
 abbrev pub all : List Call
@@ -69,6 +71,8 @@ all =
     ∷ StandardisedValuesLd
     ∷ ReorderSchurStopping
     ∷ ReorderSchurStoppingLd
+    ∷ ReorderSchurList
+    ∷ ReorderSchurListLd
     ∷ []
 
 abbrev pub row : Call → ℕ
@@ -102,6 +106,8 @@ row StandardisedValues = 26
 row StandardisedValuesLd = 27
 row ReorderSchurStopping = 28
 row ReorderSchurStoppingLd = 29
+row ReorderSchurList = 30
+row ReorderSchurListLd = 31
 
 -- the first call that has the name
 unfoldable pub call_of : List ℕ → Option Call

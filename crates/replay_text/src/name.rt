@@ -3,7 +3,7 @@ ghost use Rattle.std.specs.Prelude.{◌≡◌};
 ghost use Rattle.replay_text.specs.Names as Names;
 
 // How many calls there are.
-pub const CALLS: usize = 30;
+pub const CALLS: usize = 32;
 
 // The calls, in the order of the report. Lines of those with Ld have a stride, which is no field of a case: `as`
 // numbers only cases without fields, and a call's count (`Tally`) would need a list of places.
@@ -39,6 +39,8 @@ pub enum Call {
     StandardisedValuesLd,
     ReorderSchurStopping,
     ReorderSchurStoppingLd,
+    ReorderSchurList,
+    ReorderSchurListLd,
 }
 
 impl Call {
@@ -73,6 +75,8 @@ impl Call {
         Call::StandardisedValuesLd,
         Call::ReorderSchurStopping,
         Call::ReorderSchurStoppingLd,
+        Call::ReorderSchurList,
+        Call::ReorderSchurListLd,
     ];
 
     // Its name, with the spaces after it that a row of the report has. Printed by `{:<28}` they would be proved of
@@ -111,6 +115,8 @@ impl Call {
             Call::StandardisedValuesLd => b"standardised_values_ld      ",
             Call::ReorderSchurStopping => b"reorder_schur_stopping      ",
             Call::ReorderSchurStoppingLd => b"reorder_schur_stopping_ld   ",
+            Call::ReorderSchurList => b"reorder_schur_list          ",
+            Call::ReorderSchurListLd => b"reorder_schur_list_ld       ",
         }
     }
 }
