@@ -1,6 +1,6 @@
-// Inside (`swaps`, `walks`, `schur`, `tries`, `stopping`, `solve`, `evd`, `values`): what speaks of a form. The lines
-// of document 01's list that it meets by itself, the places of its numbers, its blocks, and the lines of a move and
-// an exchange.
+// Inside (`swaps`, `walks`, `exchanges`, `schur`, `tries`, `stopping`, `lists`, `solve`, `evd`, `values`): what speaks
+// of a form. The lines of document 01's list that it meets by itself, the places of its numbers, its blocks, and the
+// lines of a move and an exchange.
 #![tactic(auto)]
 
 ghost use Rattle.std.specs.Prelude.{◌≡◌, ◌+◌, ◌-◌, ◌*◌, ◌<◌, ◌≤◌};

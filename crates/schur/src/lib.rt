@@ -1,6 +1,5 @@
 // Offered: reordering a real Schur form, `swap::schur_swap` and `reorder::reorder_schur`.
 #![tactic(auto)]
 
-mod exchange;
 pub mod reorder;
 pub mod swap;

@@ -1,34 +1,12 @@
 // The move of a block (reorder_schur).
 ghost use Rattle.std.specs.Prelude.{◌≡◌};
 ghost use Rattle.std.specs.Float.{binary64};
-ghost use Rattle.std.proofs.Common.{arith};
 ghost use Rattle.model.specs.Move as Move;
-ghost use Rattle.model.specs.Stopping as Stopping;
 ghost use Rattle.schur.specs.View.{moved};
 
-use crate::exchange::exchange_straight;
+use exchanges::reorder::reorder;
 use form::lines::accepted_move;
-use form::shape::Shape;
 use refusal::Refusal;
-use swaps::neighbours::Neighbours;
-use walks::counts::Counts;
-use walks::moving::Kind;
-use walks::walk::walk;
-
-// A move that goes on after a decline.
-struct GoesOn;
-
-impl Kind for GoesOn {
-    ghost kind = { λ ld n. Stopping.goes_on binary64 ld n };
-
-    ghost most = { 4 };
-
-    fn exchange(s: Shape, t: &mut [f64], u: &mut [f64], b: Neighbours) -> Result<Counts, Counts> {
-        Ok(exchange_straight(s, t, u, b))
-    }
-
-    ghost few = { omega arith };
-}
 
 // The row that a move landed on, and the counts, which are numbers of the answer itself and no Counts, since
 // document 01 asks for that form.
@@ -52,11 +30,10 @@ pub fn reorder_schur(
     ensures { moved result t.new u.new ≡ Move.move_call binary64 ld n t.old u.old from to }
 {
     let s = accepted_move(n, ld, t, u, from, to)?;
-    match walk::<GoesOn>(s, t, u, from, to) {
-        Ok(m) | Err(m) => Ok(Moved {
-            landed: m.here,
-            swaps: m.counts.swaps,
-            declined: m.counts.declined,
-        }),
-    }
+    let m = reorder(s, t, u, from, to);
+    Ok(Moved {
+        landed: m.here,
+        swaps: m.counts.swaps,
+        declined: m.counts.declined,
+    })
 }

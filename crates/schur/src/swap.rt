@@ -4,7 +4,7 @@ ghost use Rattle.std.specs.Float.{binary64};
 ghost use Rattle.model.specs.Exchange as Exchange;
 ghost use Rattle.schur.specs.View.{exchanged};
 
-use crate::exchange::exchange;
+use exchanges::exchange::exchange;
 use form::lines::accepted_exchange;
 use refusal::Refusal;
 use swaps::neighbours::Neighbours;

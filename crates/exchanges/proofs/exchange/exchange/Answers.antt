@@ -1,12 +1,12 @@
--- `schur::exchange::exchange` meets its contract. Assumes nothing.
+-- `exchanges::exchange::exchange` meets its contract. Assumes nothing.
 use mathlib.Core.Path.{refl, sym, ◌∙◌}
 use native.Mathlib.Omega.{arith}
 use lib.Dec.{lit<}
 use Rattle.std.proofs.Common.{rules}
 use Rattle.form.proofs.Runs.{still}
-use Rattle.schur.proofs.Todo.{as_many, seen_is, pushed, pushed_twice, none-waiting}
-use Rattle.schur.proofs.Exchanges.{with_todo, rows_of, begins, ends, rows, upper_room, lower_room, upper_on, lower_on, whole_on, upper_fewer, lower_fewer, whole_fewer}
-use Rattle.schur.proofs.exchange.exchange.Goals as goal
+use Rattle.exchanges.proofs.Todo.{as_many, seen_is, pushed, pushed_twice, none-waiting}
+use Rattle.exchanges.proofs.Exchanges.{with_todo, rows_of, begins, ends, rows, upper_room, lower_room, upper_on, lower_on, whole_on, upper_fewer, lower_fewer, whole_fewer}
+use Rattle.exchanges.proofs.exchange.exchange.Goals as goal
 
 pub loop-b-init : goal.loop-b-init
 loop-b-init c =

@@ -1,4 +1,4 @@
--- `schur::exchange::swap_of` meets its contract. Assumes nothing.
+-- `exchanges::exchange::swap_of` meets its contract. Assumes nothing.
 use mathlib.Core.Path.{refl, sym}
 use Prim.Native.Nat.{◌≤◌}
 use mathlib.Core.Bool.{Bool, true, false, cond}
@@ -6,8 +6,8 @@ use lib.Dec.{lit≤}
 use borrow.Author.Tests.{ne_eqb}
 use Rattle.laws_exchange.proofs.Counts.{pair-counts}
 use Rattle.model.specs.Swaps.{declines_in, swap_of, swap11, swap12, swap21}
-use Rattle.schur.proofs.exchange.swap_of.Goals as goal
-use Rattle.schur.proofs.exchange.swap_of.Goals.{in-1-eq1, in-1-default, in_default-eq1, in_default}
+use Rattle.exchanges.proofs.exchange.swap_of.Goals as goal
+use Rattle.exchanges.proofs.exchange.swap_of.Goals.{in-1-eq1, in-1-default, in_default-eq1, in_default}
 
 once : (b : Bool) → cond b 1 0 ≤ 1
 once true = lit≤ tt

@@ -1,6 +1,6 @@
--- `schur::exchange::exchange_whole` meets its contract. Assumes nothing.
-use Rattle.schur.proofs.Exchanges.{whole-step}
-use Rattle.schur.proofs.exchange.exchange_whole.Goals as goal
+-- `exchanges::exchange::exchange_whole` meets its contract. Assumes nothing.
+use Rattle.exchanges.proofs.Exchanges.{whole-step}
+use Rattle.exchanges.proofs.exchange.exchange_whole.Goals as goal
 
 pub returns : goal.returns
 returns c =

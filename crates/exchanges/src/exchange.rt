@@ -75,7 +75,7 @@ fn apart(s: Shape, t: &[f64], size: usize, j: usize) -> bool
 // The exchange of neighbouring blocks, in a loop over the small exchanges still to do, the last pushed
 // first. Two rows that have a zero inside when their turn comes are parted: of the first two the lower goes
 // first, of the second two the upper.
-pub(crate) fn exchange(s: Shape, t: &mut [f64], u: &mut [f64], b: Neighbours) -> Counts
+pub fn exchange(s: Shape, t: &mut [f64], u: &mut [f64], b: Neighbours) -> Counts
     requires { Holds s t.old × Beside s u.old × Fits s b }
     ensures { Step s.ld s.n u.old t.new u.new result.swaps result.declined (Exchange.exchange binary64 s.ld s.n b.row b.n1 b.n2 t.old) × (result.swaps ≤ 4) × (result.declined ≤ 4) }
 {
@@ -98,7 +98,7 @@ pub(crate) fn exchange(s: Shape, t: &mut [f64], u: &mut [f64], b: Neighbours) ->
 
 // The same exchange: two single rows straight by their swap, all else as above. Without this way moves of
 // single rows take 1.04 to 1.23 times as long (docs/BENCHMARKS.md, "Before and after").
-pub(crate) fn exchange_straight(s: Shape, t: &mut [f64], u: &mut [f64], b: Neighbours) -> Counts
+pub fn exchange_straight(s: Shape, t: &mut [f64], u: &mut [f64], b: Neighbours) -> Counts
     requires { Holds s t.old × Beside s u.old × Fits s b }
     ensures { Step s.ld s.n u.old t.new u.new result.swaps result.declined (Exchange.exchange binary64 s.ld s.n b.row b.n1 b.n2 t.old) × (result.swaps ≤ 4) × (result.declined ≤ 4) }
 {

@@ -1,8 +1,8 @@
--- `schur::exchange::exchange_straight` meets its contract. Assumes nothing.
+-- `exchanges::exchange::exchange_straight` meets its contract. Assumes nothing.
 use lib.Dec.{lit≤}
 use Rattle.swaps.proofs.Sizes.{one1, one2}
-use Rattle.schur.proofs.Exchanges.{single_step}
-use Rattle.schur.proofs.exchange.exchange_straight.Goals as goal
+use Rattle.exchanges.proofs.Exchanges.{single_step}
+use Rattle.exchanges.proofs.exchange.exchange_straight.Goals as goal
 
 pub returns-then-b-eq2 : goal.returns-then-b-eq2
 returns-then-b-eq2 c =

@@ -5,7 +5,7 @@ use mathlib.Core.List.{List, [], ◌∷◌, ◌++◌, map, reverse-append}
 use lib.ListN.{length, length-map, length-reverse}
 use Rattle.swaps.specs.declared.neighbours.Neighbours.{Neighbours}
 use Rattle.laws_exchange.specs.Loop as Loop
-use Rattle.schur.specs.Todo.{seen, waiting}
+use Rattle.exchanges.specs.Todo.{seen, waiting}
 
 pub as_many : (todo : List Neighbours) → length (waiting todo) ≡ length todo
 unfolding waiting

@@ -1,12 +1,12 @@
--- `schur::exchange::exchange` meets its contract. Whenever the loop's test is reached, form, factor and counts are what some rounds of the loop of laws_exchange have made, and the rounds that are left make the exchange of them (`Reached`).
+-- `exchanges::exchange::exchange` meets its contract. Whenever the loop's test is reached, form, factor and counts are what some rounds of the loop of laws_exchange have made, and the rounds that are left make the exchange of them (`Reached`).
 -- The measure is how many rounds are left at most. Assumes nothing.
 use mathlib.Core.Path.{◌≡◌}
 use lib.ListN.{length}
 use lib.Ieee.{binary64}
 use Rattle.model.specs.Exchange.{exchange}
-use Rattle.schur.specs.Todo.{waiting}
-use Rattle.schur.proofs.Exchanges.{Reached, left}
-use Rattle.schur.proofs.exchange.exchange.Given as goal
+use Rattle.exchanges.specs.Todo.{waiting}
+use Rattle.exchanges.proofs.Exchanges.{Reached, left}
+use Rattle.exchanges.proofs.exchange.exchange.Given as goal
 
 abbrev pub invariant-loop-b : goal.invariant-loop-b
 invariant-loop-b l =
