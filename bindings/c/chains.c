@@ -2,7 +2,8 @@
  * any call again, and the form and the answers are the same with a factor of any content and with
  * none. Forms, numbers and arguments are drawn, bad ones too. Every call is made on two copies of
  * the form that have different factors, and different numbers in the rows from n on. The checks are
- * written from the list of lines alone: they know nothing of how a block is moved.
+ * written from the list of lines alone: they know nothing of how a block is moved. A list of moves
+ * is checked against the single calls, made in turn on a third copy.
  *
  *     target/bindings/chains [CHAINS [SEED [LEAST]]]
  *
@@ -19,31 +20,33 @@
 
 #define CALLS 50
 #define BEHIND 8 /* places behind a buffer, which no call may write */
+#define PAIRS 4  /* the most that a list has here */
 #define MOST (128 * 64 + BEHIND)
 #define PLACES(buffer) (sizeof(buffer) / sizeof(*(buffer)))
 
 /* One of the two copies: its form and factor, the same before the call, and what the call gave. */
 typedef struct {
     double t[MOST], u[MOST], old_t[MOST], old_u[MOST];
-    size_t u_len, answer, landed, swaps, declined;
+    size_t u_len, answer, landed, swaps, declined, results[4 * PAIRS + 2 + BEHIND];
     bool stopped;
 } copy;
 
-static copy copies[2];
-static size_t n, ld, len; /* len is ld * n */
-static size_t call, x[3]; /* the call, and from, to and 0, or j0, n1 and n2 */
-static size_t seed = 1, chain, number;
+static copy copies[2], single; /* single takes a list's single calls */
+static size_t n, ld, len;      /* len is ld * n */
+static size_t call, x_len, x[2 * PAIRS + 1]; /* from and to, j0, n1 and n2, or a list's pairs */
+static size_t results_len, seed = 1, chain, number;
 
 /* What is counted: of calls that are carried out, which they were and what they met; of those that
  * are refused, the line. Each must have been drawn. */
-enum { MOVE, STOPPING, EXCHANGE, NAN_FORM, NAN_FACTOR, LARGE, APART, DECLINE, STOP, SPLIT, READ,
-       REFUSED };
+enum { MOVE, STOPPING, EXCHANGE, LIST, PAIR_DONE, PAIR_REFUSED, NAN_FORM, NAN_FACTOR, LARGE, APART,
+       DECLINE, STOP, SPLIT, READ, REFUSED };
 static const char *const kinds[] = {
-    "vx_reorder_schur", "vx_reorder_schur_stopping", "vx_schur_swap", "with a NaN in the form",
-    "with a NaN in a factor", "with n above 12", "with a stride above n", "with a decline",
-    "stopped", "with a 2-block that split", "forms read", [REFUSED + 4] = "refused by line 4",
-    [REFUSED + 7] = "by 7", [REFUSED + 8] = "by 8", [REFUSED + 9] = "by 9",
-    [REFUSED + 10] = "by 10"};
+    "vx_reorder_schur", "vx_reorder_schur_stopping", "vx_schur_swap", "vx_reorder_schur_list",
+    "pairs carried out", "pairs refused", "with a NaN in the form", "with a NaN in a factor",
+    "with n above 12", "with a stride above n", "with a decline", "stopped",
+    "with a 2-block that split", "forms read", [REFUSED + 4] = "refused by line 4",
+    [REFUSED + 7] = "by 7", [REFUSED + 8] = "by 8", [REFUSED + 9] = "by 9", [REFUSED + 10] = "by 10",
+    [REFUSED + 12] = "by 12"};
 static size_t counts[PLACES(kinds)];
 
 static void check(int holds, const char *what)
@@ -51,7 +54,10 @@ static void check(int holds, const char *what)
     if (holds)
         return;
     printf("seed %zu, chain %zu, call %zu: not so: %s\n", seed, chain, number, what);
-    printf("%s, n %zu, stride %zu, arguments %zu %zu %zu\n", kinds[call], n, ld, x[0], x[1], x[2]);
+    printf("%s, n %zu, stride %zu, arguments", kinds[call], n, ld);
+    for (size_t k = 0; k < x_len; k++)
+        printf(" %zu", x[k]);
+    printf(call == LIST ? ", %zu places for results\n" : "\n", results_len);
     for (const copy *c = copies; c < copies + 2; c++)
         printf("factor's length %zu: answer %zu, landed %zu, swaps %zu, declined %zu, stopped %d\n",
                c->u_len, c->answer, c->landed, c->swaps, c->declined, c->stopped);
@@ -111,6 +117,8 @@ static int same_forms(const double *s, const double *t)
 /* The first line that applies to the call, or 0. */
 static size_t line(const double *t, size_t u_len)
 {
+    if (call == LIST)
+        return x_len % 2 != 0 || results_len < 2 * x_len ? 12 : 0;
     if (u_len != len && u_len != 0)
         return 4;
     if (x[0] >= n || (call != EXCHANGE && x[1] >= n))
@@ -126,6 +134,24 @@ static size_t line(const double *t, size_t u_len)
     return 0;
 }
 
+/* The results of a list, its form and its factor are the single calls'. */
+static void check_list(const copy *c)
+{
+    size_t results[PLACES(c->results)], pairs = c->answer == 0 ? x_len / 2 : 0;
+    memcpy(single.t, c->old_t, (len + BEHIND) * sizeof *c->t);
+    memcpy(single.u, c->old_u, (len + BEHIND) * sizeof *c->u);
+    for (size_t k = 0; k < PLACES(results); k++)
+        results[k] = 99;
+    for (size_t k = 0; k < pairs; k++) {
+        size_t *four = results + 4 * k;
+        four[0] = vx_reorder_schur(n, ld, single.t, len, single.u, c->u_len, x[2 * k], x[2 * k + 1],
+                                   four + 1, four + 2, four + 3);
+    }
+    check(memcmp(c->results, results, sizeof results) == 0, "each pair has its results, no more");
+    check(same_forms(c->t, single.t), "the form is as the single calls leave it");
+    check(same_forms(c->u, single.u), "the factor is as the single calls leave it");
+}
+
 static void check_copy(const copy *c)
 {
     check(c->answer == line(c->old_t, c->u_len), "the answer is the first line that applies");
@@ -134,6 +160,8 @@ static void check_copy(const copy *c)
     check(rest_stayed(c->u, c->old_u), "the factor's rows from n on stay");
     if (c->answer != 0 || c->u_len == 0)
         check(stayed(c->u, c->old_u), "a factor that is refused, or not lent, stays");
+    if (call == LIST)
+        check_list(c);
     if (c->answer != 0) {
         check(stayed(c->t, c->old_t), "a form that is refused stays");
         check(!c->landed && !c->swaps && !c->declined && !c->stopped, "refused, all is zero");
@@ -142,7 +170,7 @@ static void check_copy(const copy *c)
             x[1] == 2 && x[2] == 2 && !across(c->old_t, x[0] + 1) && !across(c->old_t, x[0] + 3);
         check(c->swaps >= 1 && c->swaps <= 4 && (c->swaps == 4) == apart, "one to four swaps");
         check(c->declined <= c->swaps, "swaps that declined are swaps");
-    } else {
+    } else if (call != LIST) {
         check(c->landed < n && c->declined <= c->swaps, "it landed in a row, by swaps");
         check(call == MOVE || c->declined == c->stopped, "one declined if it stopped, else none");
         check(c->stopped || !across(c->t, c->landed), "it landed on the first row of a block");
@@ -279,13 +307,16 @@ static void draw_call(void)
     const size_t sizes[4] = {0, 3, (size_t)-1, (size_t)-3};
     const double *t = copies[0].t;
     int careless = below(4) == 0, wrong = careless && below(3) == 0;
-    call = below(3);
-    for (size_t k = 0; k < 3; k++) {
+    call = below(4);
+    x_len = call == EXCHANGE ? 3 : call == LIST ? 2 * below(PAIRS + 1) : 2;
+    x_len += call == LIST && careless && below(4) == 0;
+    results_len = careless && below(4) == 0 ? below(2 * x_len + 1) : 2 * x_len + below(BEHIND);
+    for (size_t k = 0; k < x_len; k++) {
         int bad = careless && below(3) == 0;
         if (k > 0 && call == EXCHANGE)
             x[k] = bad ? sizes[below(4)] : 1 + below(2);
         else
-            x[k] = k == 2 ? 0 : bad ? far[below(4)] : below(n);
+            x[k] = bad ? far[below(4)] : below(n);
     }
     if (call == EXCHANGE && !careless && below(4)) { /* two blocks as they stand */
         x[0] -= across(t, x[0]);
@@ -309,9 +340,14 @@ static void make_call(copy *c)
     memcpy(c->old_t, c->t, (len + BEHIND) * sizeof *c->t);
     memcpy(c->old_u, c->u, (len + BEHIND) * sizeof *c->u);
     c->stopped = call == STOPPING;
-    c->landed = call == EXCHANGE ? 0 : 99;
-    c->swaps = c->declined = 99;
-    if (call == MOVE)
+    c->landed = call == EXCHANGE || call == LIST ? 0 : 99;
+    c->swaps = c->declined = call == LIST ? 0 : 99;
+    for (size_t k = 0; k < PLACES(c->results); k++)
+        c->results[k] = 99;
+    if (call == LIST)
+        c->answer = vx_reorder_schur_list(n, ld, t, len, u, c->u_len, x_len ? x : NULL, x_len,
+                                          c->results, results_len);
+    else if (call == MOVE)
         c->answer = vx_reorder_schur(n, ld, t, len, u, c->u_len, x[0], x[1], &c->landed, &c->swaps,
                                      &c->declined);
     else if (call == STOPPING)
@@ -362,9 +398,14 @@ static void run_chain(size_t least)
         check_copy(b);
         check(same_forms(a->t, b->t), "the form is the same with both factors");
         check(a->answer == b->answer && a->landed == b->landed && a->swaps == b->swaps &&
-                  a->declined == b->declined && a->stopped == b->stopped,
+                  a->declined == b->declined && a->stopped == b->stopped &&
+                  memcmp(a->results, b->results, sizeof a->results) == 0,
               "the answer is the same with both factors");
         counts[a->answer ? REFUSED + a->answer : call]++;
+        for (size_t k = 0; call == LIST && a->answer == 0 && k < 2 * x_len; k += 4) {
+            counts[a->results[k] ? PAIR_REFUSED : PAIR_DONE]++;
+            a->declined += a->results[k + 3];
+        }
         if (a->answer == 0) {
             counts[NAN_FORM] += has_nan(a->old_t);
             counts[NAN_FACTOR] += has_nan(a->u_len ? a->old_u : b->old_u);

@@ -1,10 +1,12 @@
 /* The test of volmeixi.h: calls every function, checks document 01's worked values, every number
- * that can come back, that a call which is turned away leaves all its buffers and gives zeros, and
- * that at every stride a call gives what it gives without gaps and leaves the rows beyond.
+ * that can come back, that a call which is turned away leaves all its buffers and gives zeros, that
+ * at every stride a call gives what it gives without gaps and leaves the rows beyond, and that a
+ * list of moves is its single calls in turn.
  * Prints each check that failed and the count of those that passed; ends with 1 if any failed. */
 #include "volmeixi.h"
 
 #include <math.h>
+#include <stdint.h>
 #include <stdio.h>
 #include <string.h>
 
@@ -351,6 +353,30 @@ static void stopping_moves(void)
     CHECK(t[0] == -3 && t[1] == 2 && t[3] == 0 && t[4] == -3 && t[8] == -4);
 }
 
+/* A list of moves, with room for 65 pairs and a number more, and its results, which hold before the
+ * call what no call gives. */
+#define BEFORE ((size_t)-1)
+static size_t list[131], results[4 * 65 + 1];
+
+/* The call on the lent buffers, with so many places of both. */
+static size_t list_of(size_t n, size_t ld, size_t t_len, size_t u_len, size_t moves_len,
+                      size_t results_len)
+{
+    for (size_t k = 0; k < PLACES(results); k++)
+        results[k] = BEFORE;
+    return vx_reorder_schur_list(n, ld, t, t_len, u_len ? u : NULL, u_len, list, moves_len, results,
+                                 results_len);
+}
+
+/* Whether these are the first results, and all places after them stay. */
+static int results_are(const size_t *wanted, size_t len)
+{
+    for (size_t k = 0; k < PLACES(results); k++)
+        if (results[k] != (k < len ? wanted[k] : BEFORE))
+            return 0;
+    return 1;
+}
+
 static void exchanges(void)
 {
     lend(one_two_three, 9);
@@ -365,7 +391,7 @@ static void exchanges(void)
 }
 
 /* The number that a call on the lent buffers gives: it must leave them all, and count nothing. Both
- * moves give the same. */
+ * moves give the same, and a list has it for each pair, and three zeros. */
 static size_t refused_move(size_t n, size_t ld, size_t t_len, size_t u_len, size_t from, size_t to)
 {
     landed = swaps = declined = 9;
@@ -375,6 +401,11 @@ static size_t refused_move(size_t n, size_t ld, size_t t_len, size_t u_len, size
     landed = swaps = declined = 9;
     CHECK(stopping(n, ld, t_len, u_len, from, to) == number);
     CHECK(untouched() && !stopped && landed == 0 && swaps == 0 && declined == 0);
+    const size_t twice[8] = {number, 0, 0, 0, number, 0, 0, 0};
+    list[0] = list[2] = from;
+    list[1] = list[3] = to;
+    CHECK(list_of(n, ld, t_len, u_len, 4, PLACES(results)) == VX_DONE);
+    CHECK(untouched() && results_are(twice, 8));
     return number;
 }
 
@@ -587,6 +618,131 @@ static int holds(const double *buffer, const double *old, size_t n, size_t ld, c
     return 1;
 }
 
+/* The list's pairs at a stride, beside the single calls in turn without gaps: with a factor and
+ * without, and with results that are long enough and longer. */
+static void list_beside_singles(size_t n, size_t ld, const double *form, size_t pairs)
+{
+    static double rows[64 * 64], factor[64 * 64];
+    size_t singles[4 * 64];
+    for (size_t k = 0; k < 2; k++) {
+        lend_at(n, n, form);
+        for (size_t j = 0; j < pairs; j++) {
+            size_t *four = singles + 4 * j;
+            four[0] = move(n, n, n * n, k * n * n, list[2 * j], list[2 * j + 1]);
+            four[1] = landed;
+            four[2] = swaps;
+            four[3] = declined;
+        }
+        memcpy(rows, t, n * n * sizeof *t);
+        memcpy(factor, u, n * n * sizeof *u);
+        lend_at(n, ld, form);
+        CHECK(list_of(n, ld, ld * n, k * ld * n, 2 * pairs, 4 * pairs + k) == VX_DONE);
+        CHECK(holds(t, old_t, n, ld, rows) && holds(u, old_u, n, ld, factor));
+        CHECK(results_are(singles, 4 * pairs));
+    }
+}
+
+/* A number below a bound. */
+static size_t drawn(size_t bound)
+{
+    static uint64_t state = 1;
+    state = state * 6364136223846793005 + 1442695040888963407;
+    return (size_t)(state >> 33) % bound;
+}
+
+/* A form with 2-blocks of any kind, and pairs of which one in eight may be outside. */
+static void draw_list(size_t n, double *form, size_t pairs)
+{
+    for (size_t k = 0; k < n * n; k++)
+        form[k] = k % n > k / n ? 0.0 : (double)drawn(4001) / 1000 - 2;
+    for (size_t j = 0; j + 1 < n; j++)
+        if (drawn(3) == 0) {
+            form[j + 1 + n * j] = drawn(2) ? 0.75 : -1.5;
+            j++;
+        }
+    for (size_t k = 0; k < 2 * pairs; k++)
+        list[k] = drawn(16) ? drawn(n) : n + drawn(2);
+}
+
+static void lists(void)
+{
+    const size_t forward_and_back[6] = {0, 2, 3, 0, 2, 0}, apart[6] = {0, 5, 4, 0, 2, 4};
+    const size_t of_it[12] = {0, 2, 2, 0, VX_POSITION, 0, 0, 0, 0, 0, 2, 0};
+    const size_t declines[8] = {0, 2, 1, 1, 0, 0, 1, 1}, all[4] = {0, 0, 63, 0};
+    const size_t wrong[8][2] = {{1, 261},   {3, 261},   {127, 261}, {129, 261},
+                                {130, 260}, {128, 255}, {2, 3},     {6, 0}};
+    double form[64 * 64], deep[9];
+    size_t many[4 * 64];
+
+    /* The second pair is turned away, and the third goes on. */
+    memcpy(list, forward_and_back, sizeof forward_and_back);
+    lend(one_two_three, 9);
+    CHECK(list_of(3, 3, 9, 9, 4, 8) == VX_DONE);
+    CHECK(t[0] == 2 && t[4] == 3 && t[8] == 1);
+    CHECK(results_are(of_it, 8));
+    lend(one_two_three, 9);
+    CHECK(list_of(3, 3, 9, 9, 6, 12) == VX_DONE);
+    CHECK(t[0] == 1 && t[4] == 2 && t[8] == 3);
+    CHECK(results_are(of_it, 12));
+
+    /* So does each pair after a decline. */
+    list[1] = list[2] = 2;
+    list[3] = 0;
+    lend(alike, 16);
+    CHECK(list_of(4, 4, 16, 16, 4, 13) == VX_DONE);
+    CHECK(untouched() && results_are(declines, 8));
+    memcpy(list, apart, sizeof apart);
+    list_beside_singles(6, 7, alike_apart, 3);
+    CHECK(results[3] == 1);
+
+    /* Forms and lists of all sizes, with the rows beyond and without. */
+    for (size_t k = 0; k < 200; k++) {
+        size_t n = 1 + drawn(12), pairs = drawn(9);
+        draw_list(n, form, pairs);
+        list_beside_singles(n, n + k % 2 * drawn(129 - n), form, pairs);
+    }
+    for (size_t k = 0; k < 4; k++) {
+        draw_list(64 - k % 2, form, 64);
+        list_beside_singles(64 - k % 2, k < 2 ? 64 : 128, form, 64);
+    }
+
+    /* 64 pairs pass. */
+    for (size_t k = 0; k < PLACES(list); k++)
+        list[k] = k % 2 ? 0 : 63;
+    for (size_t k = 0; k < PLACES(many); k++)
+        many[k] = all[k % 4];
+    lend(zeros, 0);
+    CHECK(list_of(64, 64, 64 * 64, 0, 128, 256) == VX_DONE);
+    CHECK(results_are(many, 256));
+
+    /* An empty list writes nothing, on what would turn a pair away too. */
+    memcpy(deep, one_two_three, sizeof deep);
+    deep[2] = 1;
+    lend(deep, 9);
+    CHECK(vx_reorder_schur_list(3, 3, t, 9, u, 9, NULL, 0, NULL, 0) == VX_DONE);
+    CHECK(vx_reorder_schur_list(0, 129, NULL, 0, NULL, 0, NULL, 0, NULL, 0) == VX_DONE);
+    CHECK(list_of(3, 3, 9, 9, 0, 8) == VX_DONE);
+    CHECK(untouched() && results_are(NULL, 0));
+
+    /* 12 comes first, whatever else is wrong, and nothing is written. */
+    for (size_t k = 0; k < PLACES(list); k++)
+        list[k] = k % 3;
+    for (size_t k = 0; k < PLACES(wrong); k++) {
+        const size_t *lens = wrong[k];
+        lend(one_two_three, 9);
+        CHECK(list_of(3, 3, 9, 9, lens[0], lens[1]) == VX_MOVE_LIST);
+        CHECK(list_of(0, 129, 1, 1, lens[0], lens[1]) == VX_MOVE_LIST);
+        CHECK(list_of(65, 65, 65 * 65, 0, lens[0], lens[1]) == VX_MOVE_LIST);
+        CHECK(list_of(3, 2, 6, 6, lens[0], lens[1]) == VX_MOVE_LIST);
+        CHECK(list_of(3, 3, 8, 0, lens[0], lens[1]) == VX_MOVE_LIST);
+        CHECK(list_of(3, 3, 9, 8, lens[0], lens[1]) == VX_MOVE_LIST);
+        CHECK(untouched() && results_are(NULL, 0));
+        lend(deep, 9);
+        CHECK(list_of(3, 3, 9, 9, lens[0], lens[1]) == VX_MOVE_LIST);
+        CHECK(untouched() && results_are(NULL, 0));
+    }
+}
+
 /* Each call at a stride, beside the same without gaps. */
 static void at_a_stride(size_t ld)
 {
@@ -711,10 +867,10 @@ static void strides(void)
 /* Each number has a sentence of its own, and those that no call gives have one too. */
 static void messages(void)
 {
-    const size_t known[13] = {
-        VX_DONE,       1,           VX_ROWS,     VX_STRIDE,     VX_FORM_LENGTH, VX_BUFFER_LENGTH,
-        VX_DEEP_ENTRY, VX_TOUCHING, VX_POSITION, VX_BLOCK_SIZE, VX_PAST_END,    VX_ACROSS,
-        VX_TAIL_LENGTH};
+    const size_t known[14] = {
+        VX_DONE,        1,           VX_ROWS,     VX_STRIDE,     VX_FORM_LENGTH, VX_BUFFER_LENGTH,
+        VX_DEEP_ENTRY,  VX_TOUCHING, VX_POSITION, VX_BLOCK_SIZE, VX_PAST_END,    VX_ACROSS,
+        VX_TAIL_LENGTH, VX_MOVE_LIST};
     for (size_t k = 0; k < PLACES(known); k++) {
         for (size_t j = 0; j < k; j++)
             CHECK(strcmp(vx_message(known[j]), vx_message(known[k])) != 0);
@@ -722,8 +878,8 @@ static void messages(void)
     }
     CHECK(strcmp(vx_message(VX_POSITION), "a position or column number is not below n") == 0);
     CHECK(strcmp(vx_message(VX_STRIDE), "the stride is below n or above 128") == 0);
-    CHECK(VX_STRIDE == 17);
-    CHECK(strcmp(vx_message(12), vx_message((size_t)-1)) == 0);
+    CHECK(VX_STRIDE == 17 && VX_MOVE_LIST == 12);
+    CHECK(strcmp(vx_message(13), vx_message((size_t)-1)) == 0);
 }
 
 int main(void)
@@ -736,6 +892,7 @@ int main(void)
     moves();
     stopping_moves();
     exchanges();
+    lists();
     refusals();
     values_and_vectors();
     values_of_a_copy();

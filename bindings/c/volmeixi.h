@@ -31,7 +31,7 @@
  *
  * What a call gives back can be sent to any call again: after any moves and exchanges an accepted
  * form is still accepted, so that a later call is turned away for its own arguments alone. The form
- * and the single results are the same with a factor of any content and with none.
+ * and the results are the same with a factor of any content and with none.
  */
 #ifndef VOLMEIXI_H
 #define VOLMEIXI_H
@@ -45,6 +45,7 @@ extern "C" {
 
 enum {
     VX_DONE = 0,          /* carried out */
+    VX_MOVE_LIST = 12,    /* moves_len is odd or above 128, or results_len below 2 * moves_len */
     VX_ROWS = 2,          /* n is 0 or above 64 */
     VX_STRIDE = 17,       /* ld is below n or above 128 */
     VX_FORM_LENGTH = 3,   /* the form's length is not ld * n */
@@ -67,6 +68,9 @@ static inline const char *vx_message(size_t number)
         return "carried out";
     case 1:
         return "the text of the request is not laid out as it must be";
+    case VX_MOVE_LIST:
+        return "the list of moves has an odd length or more than 64 pairs, or the results lack "
+               "four places a pair";
     case VX_ROWS:
         return "the number of rows n is 0 or above 64";
     case VX_STRIDE:
@@ -122,6 +126,20 @@ size_t vx_reorder_schur(size_t n, size_t ld, double *t, size_t t_len, double *u,
 size_t vx_reorder_schur_stopping(size_t n, size_t ld, double *t, size_t t_len, double *u,
                                  size_t u_len, size_t from, size_t to, bool *stopped, size_t *here,
                                  size_t *swaps, size_t *declined);
+
+/* Makes up to 64 moves over one form, which is checked once and not for each: form, factor and
+ * results are those of vx_reorder_schur called for each pair in turn. moves has the pairs as from,
+ * to, from, to, ..; moves_len is the number of its places, two a pair. results has at least four
+ * places a pair, and what stands in further ones stays; it must not overlap with moves either.
+ * Results, four places a pair: the number that vx_reorder_schur gives for it; the row landed on;
+ * the number of swaps; how many of these declined. A pair that is turned away has its number and
+ * three zeros there, changes nothing else, and the next pair goes on. What is wrong with n, ld, a
+ * length or the form is the number of every pair: the call itself gives 0 then too.
+ * Gives 0, or 12 if moves_len is odd or above 128, or results_len is below 2 * moves_len; nothing
+ * is written then. An empty list gives 0 and writes nothing. */
+size_t vx_reorder_schur_list(size_t n, size_t ld, double *t, size_t t_len, double *u, size_t u_len,
+                             const size_t *moves, size_t moves_len, size_t *results,
+                             size_t results_len);
 
 /* Exchanges the n1 rows from row j0 on with the n2 rows below them. u as in vx_reorder_schur.
  * Results: the number of swaps, 1 to 4 (4 exactly when n1 and n2 are 2, each with a zero inside);

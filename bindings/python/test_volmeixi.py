@@ -48,6 +48,7 @@ ALIKE_APART = (
 )
 
 MOVES = (vx.reorder_schur, vx.reorder_schur_stopping)  # which have the same parameters and lines
+LIST = ((5, 0), (6, 0), (2, 4))  # of moves on six rows, one of which is refused
 
 RAW = (*SIX[:8], 1.5, *SIX[9:])  # the same with a 2-block of one sign, a real pair
 
@@ -67,6 +68,22 @@ def floats(numbers):
 def diagonal(*numbers):
     n = len(numbers)
     return floats(numbers[k // n] if k % n == k // n else 0.0 for k in range(n * n))
+
+
+def told(results):
+    """The results of a list of moves, a number in the place of each refusal."""
+    return [one.number if isinstance(one, vx.Refusal) else one for one in results]
+
+
+def in_turn(t, u, moves):
+    """The same of single calls."""
+    results = []
+    for from_, to in moves:
+        try:
+            results.append(vx.reorder_schur(t, u, from_, to))
+        except vx.Refusal as refusal:
+            results.append(refusal.number)
+    return results
 
 
 class Case(unittest.TestCase):
@@ -212,6 +229,69 @@ class Worked(Case):
         self.assertEqual(t, floats([-3, 0, 0, -2, -3, 0, 0, 0, -4]))
         vx.reorder_schur(other, None, 0, 2)
         self.assertEqual(other, floats([-3, 2, 0, 0, -3, 0, 0, 0, -4]))
+
+    def test_lists(self):
+        """As the single calls in turn, and a pair that is refused is passed over."""
+        moves = [(0, 5), (6, 0), (4, 0), [0, -1], (2, 4), (True, 2**64), (0, 5), (False, True)]
+        for form in (SIX, ALIKE_APART):
+            (t, u), (other_t, other_u) = ((floats(form), diagonal(*[1] * 6)) for _ in range(2))
+            results = vx.reorder_schur_list(t, u, moves)
+            self.assertEqual(told(results), in_turn(other_t, other_u, moves))
+            self.assertEqual((bytes(t), bytes(u)), (bytes(other_t), bytes(other_u)))
+            self.assertEqual([type(one) for one in results[:4]], [vx.Moved, vx.Refusal] * 2)
+            self.assertEqual(str(results[1]), str(vx.Refusal(7)))
+            self.assertEqual(any(one.declined for one in results[::2]), form is ALIKE_APART)
+            alone = floats(form)
+            self.assertEqual(told(vx.reorder_schur_list(alone, None, iter(moves))), told(results))
+            self.assertEqual(bytes(alone), bytes(t))
+
+        t = floats([0] * 4096)
+        self.assertEqual(vx.reorder_schur_list(t, None, [(63, 0)] * 64), [(0, 63, 0)] * 64)
+        self.assertEqual(vx.reorder_schur_list(t, None, []), [])
+
+    def test_lists_refused(self):
+        """12, then 2, 3 and 4, which are raised; then each pair has what it was refused for."""
+
+        def by_12(t, u):
+            return vx.reorder_schur_list(t, u, [(0, 1)] * 65)
+
+        def moves(*pairs):
+            return lambda t, u: vx.reorder_schur_list(t, u, pairs)
+
+        t, u = diagonal(1, 2, 3), floats([9] * 9)
+        touching, deep = floats([1, 1, 0, 0, 2, math.nan, 0, 0, 3]), floats([1, 0, math.nan, 0, 2, 0, 0, 0, 3])
+        for number, form, factor in (
+            *((2, floats([]), floats([])), (2, floats([0] * 65 * 65), floats([1]))),
+            *((3, t[1:], u), (4, t, u[1:])),
+        ):
+            self.refused(12, by_12, form, factor)
+            self.refused(number, moves((0, 1), (0, 7)), form, factor)
+            self.refused(number, moves(), form, factor)
+        for number, form, pairs in (
+            *((5, deep, ((0, 1), (0, 7))), (6, touching, ((0, 1), (0, 7)))),
+            (7, t, ((3, 0), (0, 3), (-1, 0), (0, 2**64), (2**70, -5))),
+        ):
+            self.refused(12, by_12, form, u)
+            before = bytes(form), bytes(u)
+            results = moves(*pairs)(form, u)
+            self.assertEqual(told(results), [number] * len(pairs))
+            self.assertEqual({str(one) for one in results}, {str(vx.Refusal(number))})
+            self.assertEqual((bytes(form), bytes(u)), before)
+            self.assertEqual(moves()(form, u), [])
+
+    def test_lists_of_what_is_no_pair(self):
+        t, u = diagonal(1, 2, 3), diagonal(1, 1, 1)
+        before = bytes(t), bytes(u)
+        for wrong in (5, None, (), (1,), (0, 1, 2), {0, 2}, {0: 1, 1: 2}):
+            with self.assertRaisesRegex(TypeError, "must be a pair of positions, from and to, not "):
+                vx.reorder_schur_list(t, u, [(0, 2), wrong])
+        for wrong in ((0, 1.0), (None, 0), "01", b"", ("0", 1)):
+            with self.assertRaises(TypeError):
+                vx.reorder_schur_list(t, u, [(0, 2), wrong])
+        for wrong in (5, None, [0, 2], "02"):
+            with self.assertRaises(TypeError):
+                vx.reorder_schur_list(t, u, wrong)
+        self.assertEqual((bytes(t), bytes(u)), before)
 
     def test_exchanges(self):
         t = diagonal(1, 2, 3)
@@ -382,8 +462,8 @@ class Worked(Case):
     def test_messages(self):
         self.assertEqual(str(vx.Refusal(7)), "a position or column number is not below n")
         self.assertEqual(str(vx.Refusal(17)), "the stride is below n or above 128")
-        self.assertEqual(len({str(vx.Refusal(number)) for number in (*range(2, 12), 17)}), 11)
-        self.assertIn("12", str(vx.Refusal(12)))
+        self.assertEqual(len({str(vx.Refusal(number)) for number in (*range(2, 13), 17)}), 12)
+        self.assertIn("13", str(vx.Refusal(13)))
 
     def test_names(self):
         """All that is offered is named in __all__, and none of it hides a name of Python's own."""
@@ -493,6 +573,7 @@ class Strides(Case):
                 (SIX, lambda t, u, **at: vx.reorder_schur(t, u, 5, 0, **at)),
                 (SIX, lambda t, u, **at: vx.reorder_schur_stopping(t, u, 5, 0, **at)),
                 (ALIKE_APART, lambda t, u, **at: vx.reorder_schur_stopping(t, u, 0, 5, **at)),
+                (SIX, lambda t, u, **at: told(vx.reorder_schur_list(t, u, LIST, **at))),
                 (SIX, lambda t, u, **at: vx.schur_swap(t, u, 1, 2, 1, **at)),
             ):
                 t, u = floats(form), unit[:]
@@ -534,6 +615,8 @@ class Strides(Case):
         t, u = floats([0] * form), floats([9] * further)
         for move in MOVES:
             self.refused(number, lambda t, u: move(t, u, 0, 1, stride=stride), t, u)
+        self.refused(number, lambda t, u: vx.reorder_schur_list(t, u, LIST, stride=stride), t, u)
+        self.refused(12, lambda t, u: vx.reorder_schur_list(t, u, LIST * 22, stride=stride), t, u)
         self.refused(number, lambda t, u: vx.schur_swap(t, u, 0, 1, 1, stride=stride), t, u)
         self.refused(number, lambda t, v: vx.evd_from_real_schur(t, v, stride=stride), t, u)
         if number != 4:
@@ -664,8 +747,9 @@ class Corners(Case):
 
     def test_at_the_end(self):
         """Fewer numbers than the stride times n from the first on: through a copy."""
-        moved, ended, swapped = self.six(), self.six(), self.six()
+        moved, ended, listed, swapped = (self.six() for _ in range(4))
         vx.reorder_schur(moved, None, 5, 0)
+        vx.reorder_schur_list(listed, None, LIST)
         vx.reorder_schur_stopping(ended, None, 5, 0)
         vx.schur_swap(swapped, None, 1, 2, 1)
         for rows, top in ((8, 2), (8, 1), (200 - 72, 1)):
@@ -674,6 +758,7 @@ class Corners(Case):
             for name, call, result in (
                 ("reorder_schur", lambda t: vx.reorder_schur(t, None, 5, 0), moved),
                 ("reorder_schur_stopping", lambda t: vx.reorder_schur_stopping(t, None, 5, 0), ended),
+                ("reorder_schur_list", lambda t: vx.reorder_schur_list(t, None, LIST), listed),
                 ("schur_swap", lambda t: vx.schur_swap(t, None, 1, 2, 1), swapped),
             ):
                 sheet[part] = self.six()
@@ -735,6 +820,22 @@ class Corners(Case):
         self.pair((sheet, end), (taller, part(1, 1, 6)), 20, [False, True])
         self.pair((sheet, end), (other, part(8, 3, 6)), 6, [False, False])
         self.pair((sheet, end), (self.sheet(6, 6), whole), 6, [False, True])
+
+    def test_lists(self):
+        """In place and through a copy; the pairs may be rows of an array."""
+        t, u = self.six(), numpy.eye(6, order="F")
+        results = told(vx.reorder_schur_list(t, u, LIST))
+        sheet, other, part = self.sheet(14, 14), self.sheet(20, 9), self.square(2, 3, 6)
+        sheet[part], other[part] = self.six(), numpy.eye(6)
+        before = self.beside(sheet, part), self.beside(other, part)
+        with self.lends("reorder_schur_list", sheet, other) as seen:
+            self.assertEqual(told(vx.reorder_schur_list(sheet[part], other[part], numpy.array(LIST))), results)
+        self.assertEqual(seen[:2], [14, sheet[part].ctypes.data])
+        self.assertNotEqual(seen[2], other[part].ctypes.data)
+        self.assertEqual((sheet[part].tobytes(), other[part].tobytes()), (t.tobytes(), u.tobytes()))
+        self.assertEqual((self.beside(sheet, part), self.beside(other, part)), before)
+        with self.assertRaisesRegex(ValueError, "two buffers of one call overlap"):
+            vx.reorder_schur_list(sheet[0:6, 0:6], sheet[5:11, 0:6], LIST)
 
     def test_form_and_factor_in_one_array(self):
         part, sheet = self.square, self.sheet(14, 14)

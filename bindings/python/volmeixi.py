@@ -93,6 +93,7 @@ __all__ = [
     "norm_l2",
     "recip",
     "reorder_schur",
+    "reorder_schur_list",
     "reorder_schur_stopping",
     "rotg",
     "schur_swap",
@@ -101,6 +102,7 @@ __all__ = [
 ]
 
 _MESSAGES = {
+    12: "the list of moves has an odd length or more than 64 pairs, or the results lack four places a pair",
     2: "the number of rows n is 0 or above 64",
     17: "the stride is below n or above 128",
     3: "the form's length is not the stride times n",
@@ -117,9 +119,10 @@ _MESSAGES = {
 
 
 class Refusal(ValueError):
-    """Why a call was turned away; number is that of the first line that applies: 2, 17, 3 to 11.
+    """Why a call was turned away; number is that of the first line that applies: 12, 2, 17, 3 to 11.
 
-    Of lines 17, 3 and 4 the message names the buffer and what it is.
+    Of lines 17, 3 and 4 the message names the buffer and what it is. A list of moves has one, not
+    raised, as the result of each pair that was turned away.
     """
 
     def __init__(self, number, message=None):
@@ -215,6 +218,7 @@ _TO_FLOAT = ctypes.POINTER(_FLOAT)
 _TO_SIZE = ctypes.POINTER(_SIZE)
 _TO_MARK = ctypes.POINTER(_MARK)
 _FLOATS = (_TO_FLOAT, _SIZE)
+_SIZES = (_TO_SIZE, _SIZE)
 
 # What each call gives, and what it is given: a buffer is its first place and its length, a single
 # result or a matrix of two rows its first place alone.
@@ -241,6 +245,7 @@ _GIVEN = {
         *(_SIZE, *[_SIZE] * 2, *_FLOATS, *_FLOATS, *[_SIZE] * 2),
         *(_TO_MARK, *[_TO_SIZE] * 3),
     ),
+    "reorder_schur_list": (_SIZE, *[_SIZE] * 2, *_FLOATS, *_FLOATS, *_SIZES, *_SIZES),
     "block_values": (_SIZE, *[_SIZE] * 2, *_FLOATS, *_FLOATS, *_FLOATS),
     "standardised_values": (_SIZE, *[_SIZE] * 2, *_FLOATS, *_FLOATS, *_FLOATS),
     "evd_from_real_schur": (_SIZE, *[_SIZE] * 2, *_FLOATS, *_FLOATS),
@@ -479,7 +484,7 @@ def _at_one_stride(n, *buffers):
 # ---- Moves
 
 
-def _changed(name, t, u, stride, *sizes, kinds):
+def _changed(name, t, u, stride, *sizes, buffers=(), kinds=()):
     """The results of a call that changes form and factor."""
     t, u = _lent(t), _lent(array("d") if u is None else u)
     n, t = _rows(t, stride, 3, "the form t")
@@ -487,7 +492,7 @@ def _changed(name, t, u, stride, *sizes, kinds):
         u = _beside(n, stride, u, "the factor u")
         _apart(t, u, n)
     with _at_one_stride(n, t, u) as (stride, t, u):
-        return _several(name, n, stride, t, u, *map(_size, sizes), kinds=kinds)
+        return _several(name, n, stride, t, u, *map(_size, sizes), *buffers, kinds=kinds)
 
 
 def reorder_schur(t, u, from_, to, *, stride=None):
@@ -512,6 +517,40 @@ def reorder_schur_stopping(t, u, from_, to, *, stride=None):
     """
     kinds = [_MARK, *[_SIZE] * 3]
     return StoppingMove(*_changed("reorder_schur_stopping", t, u, stride, from_, to, kinds=kinds))
+
+
+def _pair(move):
+    """The positions of one move of a list."""
+    try:
+        from_, to = move[:]  # not of a set, which has no order
+    except (LookupError, TypeError, ValueError):
+        raise TypeError(f"each move of a list must be a pair of positions, from and to, not {move!r}") from None
+    return _size(from_), _size(to)
+
+
+def reorder_schur_list(t, u, moves, *, stride=None):
+    """Makes a list of moves over one form: moves has up to 64 pairs, each of from and to.
+
+    The form is checked once and not for each pair. Form and factor are what reorder_schur leaves, called
+    for each pair in turn, and so are the results. Gives a list with one for each pair: Moved, or where
+    this pair was turned away a Refusal. That is not raised: the pair changes nothing, and the next goes
+    on. A form that line 5 or 6 refuses turns all of them away. Raised are Refusal 12 of more than 64
+    pairs, before all others, and 2, 17, 3 and 4 as in reorder_schur.
+
+    >>> t = array("d", [1, 0, 0, 2])
+    >>> reorder_schur_list(t, None, [(0, 1), (2, 0)])
+    [Moved(landed=1, swaps=1, declined=0), Refusal('a position or column number is not below n')]
+    >>> t[0], t[3]
+    (2.0, 1.0)
+    """
+    pairs = [_pair(move) for move in moves]
+    if len(pairs) > 64:
+        raise Refusal(12)
+    places = [position for pair in pairs for position in pair]
+    given, results = (_SIZE * len(places))(*places), (_SIZE * (2 * len(places)))()
+    _changed("reorder_schur_list", t, u, stride, buffers=(given, len(given), results, len(results)))
+    fours = (results[k : k + 4] for k in range(0, len(results), 4))
+    return [Refusal(number) if number else Moved(*moved) for number, *moved in fours]
 
 
 def schur_swap(t, u, j0, n1, n2, *, stride=None):

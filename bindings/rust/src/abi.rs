@@ -82,6 +82,18 @@ extern "C" {
         swaps: &mut usize,
         declined: &mut usize,
     ) -> usize;
+    pub fn vx_reorder_schur_list(
+        n: usize,
+        ld: usize,
+        t: *mut f64,
+        t_len: usize,
+        u: *mut f64,
+        u_len: usize,
+        moves: *const usize,
+        moves_len: usize,
+        results: *mut usize,
+        results_len: usize,
+    ) -> usize;
     pub fn vx_block_values(
         n: usize,
         ld: usize,

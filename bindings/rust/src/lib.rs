@@ -40,7 +40,9 @@ mod view;
 
 pub use arithmetic::{abs, abs1, abs2, fmax, fmin, hypot, mul_pow2, norm_l2, recip, sqrt};
 pub use blocks::{Eigenvalues, Standardised, Sylvester, lahqr_schur22, lasy2};
-pub use moves::{Exchanged, Moved, StoppingMove, reorder_schur, reorder_schur_stopping, schur_swap};
+pub use moves::{
+    Exchanged, Moved, StoppingMove, reorder_schur, reorder_schur_list, reorder_schur_stopping, schur_swap,
+};
 pub use refusal::Refusal;
 pub use small::{JacobiRotation, Reflection, RotationWith, adjoint, apply, make_householder_in_place, rotg};
 pub use vectors::{block_values, column, evd_from_real_schur, standardised_values};

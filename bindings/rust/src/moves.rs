@@ -89,6 +89,36 @@ pub fn reorder_schur_stopping(
     ViewMut { n, stride: n, numbers: t }.reorder_schur_stopping(u, from, to)
 }
 
+/// Makes up to 64 moves over one form, which is checked once and not for each. The form and the factor
+/// are what [`reorder_schur`] leaves, called for each pair (from, to) in turn, and so are the results, one
+/// for each pair. A pair that is turned away has its refusal, changes nothing, and the next pair goes
+/// on. What is wrong with the form or a length refuses every pair, and the list itself is `Ok` then too.
+/// An empty list changes nothing. [`ViewMut::reorder_schur_list`] takes a stride.
+///
+/// Refused by [`Refusal::MoveList`] alone, and each pair as `reorder_schur` is.
+///
+/// ```
+/// use volmeixi::{Moved, Refusal};
+///
+/// let mut t = [1.0, 0.0, 0.0, 0.0, 2.0, 0.0, 0.0, 0.0, 3.0];
+/// let moved = volmeixi::reorder_schur_list(3, &mut t, None, &[(0, 2), (3, 0), (1, 0)])?;
+/// assert_eq!(moved[0], Ok(Moved { landed: 2, swaps: 2, declined: 0 }));
+/// assert_eq!(moved[1], Err(Refusal::Position));
+/// assert_eq!(moved[2], Ok(Moved { landed: 0, swaps: 1, declined: 0 }));
+/// assert_eq!([t[0], t[4], t[8]], [3.0, 2.0, 1.0]);
+///
+/// assert_eq!(volmeixi::reorder_schur_list(3, &mut t, None, &[(0, 0); 65]), Err(Refusal::MoveList));
+/// # Ok::<(), volmeixi::Refusal>(())
+/// ```
+pub fn reorder_schur_list(
+    n: usize,
+    t: &mut [f64],
+    u: Option<&mut [f64]>,
+    moves: &[(usize, usize)],
+) -> Result<Vec<Result<Moved, Refusal>>, Refusal> {
+    ViewMut { n, stride: n, numbers: t }.reorder_schur_list(u, moves)
+}
+
 /// Exchanges the n1 rows of the form t from row j0 on with the n2 rows below them; the factor is as
 /// in [`reorder_schur`]. Swaps are 1 to 4, and 4 exactly when n1 and n2 are 2, each with a zero
 /// inside.
@@ -180,6 +210,48 @@ impl ViewMut<'_> {
             )
         })?;
         Ok(moved)
+    }
+
+    /// As [`reorder_schur_list()`], at the view's stride: the factor has stride × n numbers too, or none.
+    ///
+    /// Refused as there, and each pair by [`Refusal::Stride`] too, which is tested after `Rows`.
+    ///
+    /// ```
+    /// let mut t = [1.0, 0.0, f64::NAN, 0.0, 2.0, f64::NAN];
+    /// let mut form = volmeixi::ViewMut { n: 2, stride: 3, numbers: &mut t };
+    /// let moved = form.reorder_schur_list(None, &[(0, 1), (1, 0), (1, 0)])?;
+    /// assert_eq!(moved.iter().map(|one| one.unwrap().landed).collect::<Vec<_>>(), [1, 0, 0]);
+    /// assert_eq!((t[0], t[4]), (2.0, 1.0));
+    /// # Ok::<(), volmeixi::Refusal>(())
+    /// ```
+    pub fn reorder_schur_list(
+        &mut self,
+        u: Option<&mut [f64]>,
+        moves: &[(usize, usize)],
+    ) -> Result<Vec<Result<Moved, Refusal>>, Refusal> {
+        let (t, u) = (&mut *self.numbers, u.unwrap_or_default());
+        let moves: Vec<usize> = moves.iter().flat_map(|&(from, to)| [from, to]).collect();
+        let mut results = vec![[0; 4]; moves.len() / 2];
+        // SAFETY: as in reorder_schur; the list and the results are vectors of their own, and an array
+        // of four has no gaps.
+        Refusal::of(unsafe {
+            abi::vx_reorder_schur_list(
+                self.n,
+                self.stride,
+                t.as_mut_ptr(),
+                t.len(),
+                u.as_mut_ptr(),
+                u.len(),
+                moves.as_ptr(),
+                moves.len(),
+                results.as_mut_ptr().cast(),
+                4 * results.len(),
+            )
+        })?;
+        let result = |[number, landed, swaps, declined]: [usize; 4]| {
+            Refusal::of(number).map(|()| Moved { landed, swaps, declined })
+        };
+        Ok(results.into_iter().map(result).collect())
     }
 
     /// As [`schur_swap()`], at the view's stride: the factor has stride × n numbers too, or none.

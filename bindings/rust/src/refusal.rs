@@ -20,6 +20,9 @@ use std::fmt;
 #[derive(Clone, Copy, Debug, PartialEq, Eq, Hash)]
 #[non_exhaustive]
 pub enum Refusal {
+    /// 12: the list of moves has more than 64 pairs. (In C also: it has an odd length, or the results
+    /// lack four places a pair.)
+    MoveList,
     /// 2: n is 0 or above 64.
     Rows,
     /// 17: the stride is below n or above 128.
@@ -49,7 +52,8 @@ pub enum Refusal {
 use Refusal::*;
 
 /// The number of each line, in the order in which they are tested.
-const KNOWN: [(usize, Refusal); 11] = [
+const KNOWN: [(usize, Refusal); 12] = [
+    (12, MoveList),
     (2, Rows),
     (17, Stride),
     (3, FormLength),
@@ -84,6 +88,9 @@ impl Refusal {
 impl fmt::Display for Refusal {
     fn fmt(&self, f: &mut fmt::Formatter<'_>) -> fmt::Result {
         f.write_str(match self {
+            MoveList => {
+                "the list of moves has an odd length or more than 64 pairs, or the results lack four places a pair"
+            }
             Rows => "the number of rows n is 0 or above 64",
             Stride => "the stride is below n or above 128",
             FormLength => "the form's length is not the stride times n",
@@ -115,8 +122,8 @@ mod tests {
         for number in (1..20).chain(vec![usize::MAX]) {
             let refusal = Refusal::of(number).unwrap_err();
             assert_eq!(refusal.number(), number);
-            assert_eq!(matches!(refusal, Unknown(_)), !matches!(number, 2..=11 | 17));
+            assert_eq!(matches!(refusal, Unknown(_)), !matches!(number, 2..=12 | 17));
         }
-        assert_eq!(Unknown(12).to_string(), "turned away with number 12, which is not known here");
+        assert_eq!(Unknown(13).to_string(), "turned away with number 13, which is not known here");
     }
 }

@@ -1,5 +1,6 @@
 //! Document 01's worked values, every refusal, that a refused call leaves its buffers, and that at
-//! every stride a call gives what it gives without gaps and leaves the rows beyond.
+//! every stride a call gives what it gives without gaps and leaves the rows beyond, and that a list of
+//! moves is its single calls in turn.
 
 use volmeixi::*;
 
@@ -233,6 +234,54 @@ fn a_pair_standardised_to_b_zero() {
 }
 
 #[test]
+fn lists_are_single_calls_in_turn() {
+    let moves = [(0, 5), (6, 0), (4, 0), (0, usize::MAX), (2, 4), (0, 5)];
+    for form in [SIX, ALIKE_APART] {
+        let (mut t, mut u) = (form, diagonal(&[1.0; 6]));
+        let (mut list_t, mut list_u) = (form, diagonal(&[1.0; 6]));
+        let mut single = |&(from, to): &(usize, usize)| reorder_schur(6, &mut t, Some(&mut u), from, to);
+        let singles: Vec<_> = moves.iter().map(&mut single).collect();
+        assert_eq!((singles[1], singles[3]), (Err(Refusal::Position), Err(Refusal::Position)));
+        assert_eq!(singles.iter().flatten().any(|moved| moved.declined > 0), form != SIX);
+        assert_eq!(reorder_schur_list(6, &mut list_t, Some(&mut list_u), &moves).as_ref(), Ok(&singles));
+        assert_eq!((bits(&list_t), bits(&list_u)), (bits(&t), bits(&u)));
+        assert_eq!(at_a_stride(&form, |t, u| t.reorder_schur_list(u, &moves)), Ok(singles));
+    }
+}
+
+#[test]
+fn lists_of_no_pair_and_of_many() {
+    for n in [0, 3] {
+        let mut t = vec![0.0; n * n];
+        assert_eq!(reorder_schur_list(n, &mut t, None, &[]), Ok(vec![]));
+    }
+    let mut t = vec![0.0; 64 * 64];
+    let moved = Moved { landed: 0, swaps: 63, declined: 0 };
+    assert_eq!(reorder_schur_list(64, &mut t, None, &[(63, 0); 64]), Ok(vec![Ok(moved); 64]));
+
+    // 65 are refused before all else is
+    let of = |n, t: &[f64], u: &[f64]| refused(t, u, |t, u| reorder_schur_list(n, t, u, &[(0, 1); 65]));
+    let t = diagonal(&[1.0, 2.0, 3.0]);
+    assert_eq!(of(3, &t, &[9.0; 9]), Refusal::MoveList);
+    assert_eq!(of(0, &t, &[9.0; 9]), Refusal::MoveList);
+    assert_eq!(of(65, &t, &[9.0; 9]), Refusal::MoveList);
+    assert_eq!(of(3, &t[1..], &[9.0; 9]), Refusal::MoveList);
+    assert_eq!(of(3, &t, &[9.0; 8]), Refusal::MoveList);
+    assert_eq!(of(3, &[f64::NAN; 9], &[9.0; 9]), Refusal::MoveList);
+    let wide = |t: &mut [f64], u: Option<&mut [f64]>| {
+        ViewMut { n: 3, stride: 2, numbers: t }.reorder_schur_list(u, &[(0, 1); 65])
+    };
+    assert_eq!(refused(&t, &[9.0; 9], wide), Refusal::MoveList);
+}
+
+/// What a list gives that has one pair twice: for both the same.
+fn twice(mut t: ViewMut, u: Option<&mut [f64]>, from: usize, to: usize) -> Result<Moved, Refusal> {
+    let results = t.reorder_schur_list(u, &[(from, to); 2]).unwrap();
+    assert_eq!((results.len(), results[0]), (2, results[1]));
+    results[0]
+}
+
+#[test]
 fn exchanges_of_three_and_four_swaps() {
     let mut t = [0.0; 16];
     (t[0], t[5], t[10], t[15]) = (1.0, 2.0, 3.0, 4.0);
@@ -325,6 +374,7 @@ fn moves_refused() {
     let of = |n, t: &[f64], u: &[f64], from, to| {
         let refusal = refused(t, u, |t, u| reorder_schur(n, t, u, from, to));
         assert_eq!(refused(t, u, |t, u| reorder_schur_stopping(n, t, u, from, to)), refusal);
+        assert_eq!(refused(t, u, |t, u| twice(ViewMut { n, stride: n, numbers: t }, u, from, to)), refusal);
         refusal
     };
     assert_eq!(of(0, &[], &[], 0, 0), Refusal::Rows);
@@ -444,6 +494,7 @@ fn refused_by_all(n: usize, stride: usize, lengths: [usize; 4]) -> Refusal {
     let (t, u) = (vec![0.0; t_len], vec![9.0; len]);
     let refusal = refused(&t, &u, |t, u| ViewMut { n, stride, numbers: t }.reorder_schur(u, 0, 1));
     assert_eq!(refused(&t, &u, |t, u| ViewMut { n, stride, numbers: t }.reorder_schur_stopping(u, 0, 1)), refusal);
+    assert_eq!(refused(&t, &u, |t, u| twice(ViewMut { n, stride, numbers: t }, u, 0, 1)), refusal);
     assert_eq!(refused(&t, &u, |t, u| ViewMut { n, stride, numbers: t }.schur_swap(u, 0, 1, 1)), refusal);
     let form = View { n, stride, numbers: &t };
     assert_eq!(refused(&t, &u, |_, v| form.evd_from_real_schur(v.unwrap())), refusal);
@@ -491,6 +542,7 @@ fn forms_refused_at_a_stride() {
             refused(&t, &u, |t, u| ViewMut { n: 6, stride: 8, numbers: t }.reorder_schur_stopping(u, 6, 0)),
             refusal
         );
+        assert_eq!(refused(&t, &u, |t, u| twice(ViewMut { n: 6, stride: 8, numbers: t }, u, 6, 0)), refusal);
         refusal
     };
     let mut t = SIX;
@@ -504,9 +556,21 @@ fn forms_refused_at_a_stride() {
 #[test]
 fn every_refusal_says_its_own() {
     use Refusal::*;
-    let all =
-        [Rows, Stride, FormLength, BufferLength, DeepEntry, Touching, Position, BlockSize, PastEnd, Across, TailLength];
+    let all = [
+        MoveList,
+        Rows,
+        Stride,
+        FormLength,
+        BufferLength,
+        DeepEntry,
+        Touching,
+        Position,
+        BlockSize,
+        PastEnd,
+        Across,
+        TailLength,
+    ];
     let messages: std::collections::BTreeSet<String> = all.iter().map(|refusal| refusal.to_string()).collect();
     assert_eq!(messages.len(), all.len());
-    assert_eq!(all.map(Refusal::number), [2, 17, 3, 4, 5, 6, 7, 8, 9, 10, 11]);
+    assert_eq!(all.map(Refusal::number), [12, 2, 17, 3, 4, 5, 6, 7, 8, 9, 10, 11]);
 }
