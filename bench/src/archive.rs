@@ -22,10 +22,25 @@ type StoppingCall = unsafe extern "C" fn(
     *mut usize,
 ) -> usize;
 
+/// The call that takes a list of moves.
+type ListCall = unsafe extern "C" fn(
+    usize,
+    usize,
+    *mut f64,
+    usize,
+    *mut f64,
+    usize,
+    *const usize,
+    usize,
+    *mut usize,
+    usize,
+) -> usize;
+
 /// The calls that are linked of ours alone: the other archive may be of before them.
 struct Newer {
     standardised_values: ValuesCall,
     reorder_schur_stopping: StoppingCall,
+    reorder_schur_list: ListCall,
 }
 
 /// The calls of one copy.
@@ -145,8 +160,21 @@ macro_rules! newer {
                 swaps: *mut usize,
                 declined: *mut usize,
             ) -> usize;
+            #[link_name = concat!("vx_reorder_schur_list_", $name)]
+            fn reorder_schur_list(
+                n: usize,
+                ld: usize,
+                t: *mut f64,
+                t_len: usize,
+                u: *mut f64,
+                u_len: usize,
+                moves: *const usize,
+                moves_len: usize,
+                results: *mut usize,
+                results_len: usize,
+            ) -> usize;
         }
-        Some(Newer { standardised_values, reorder_schur_stopping })
+        Some(Newer { standardised_values, reorder_schur_stopping, reorder_schur_list })
     }};
 }
 
@@ -227,6 +255,34 @@ impl Archive {
             )
         };
         (number, stopped, [here, swaps, declined])
+    }
+
+    /// A list of moves, from and to of each in turn, by one call: the number. Writes four results a move:
+    /// its number, landed, swaps, declined. Panics on the other archive.
+    #[inline(always)]
+    pub fn reorder_list(
+        &self,
+        n: usize,
+        ld: usize,
+        t: &mut [f64],
+        u: &mut [f64],
+        moves: &[usize],
+        results: &mut [usize],
+    ) -> usize {
+        unsafe {
+            (self.newer().reorder_schur_list)(
+                n,
+                ld,
+                t.as_mut_ptr(),
+                t.len(),
+                u.as_mut_ptr(),
+                u.len(),
+                moves.as_ptr(),
+                moves.len(),
+                results.as_mut_ptr(),
+                results.len(),
+            )
+        }
     }
 
     #[inline(always)]

@@ -3,7 +3,7 @@
 use crate::archive::{Archive, OURS, PLACES};
 use crate::forms::between;
 use crate::opaque::black_box;
-use crate::report::{Report, middle_time, shown};
+use crate::report::{Asked, Report, middle_time, shown};
 use crate::rng::Rng;
 use crate::rows::{Plan, SEED};
 use crate::sides::{called_sqrt, hardware_sqrt, rust_hypot};
@@ -52,7 +52,7 @@ pub fn arithmetic(plan: &Plan, report: &mut Report) -> Table {
     let mut out = vec![0.0; COUNT];
 
     let mut table = Table::new(plan.markdown, &["", "beside", "ours, ns", "theirs, ns", "ours/theirs", "to reach"]);
-    let mut row = |name: &str, beside: &str, most: Option<f64>, run: &mut dyn FnMut(usize, usize) -> Duration| {
+    let mut row = |name: &str, beside: &str, asked: Option<Asked>, run: &mut dyn FnMut(usize, usize) -> Duration| {
         if !plan.wants(&format!("{name} {beside}"), None) {
             return;
         }
@@ -65,20 +65,20 @@ pub fn arithmetic(plan: &Plan, report: &mut Report) -> Table {
             middle_time(&times, 0),
             middle_time(&times, 1),
             shown(ratio),
-            report.judged(most, &[beside], &[ratio]),
+            report.judged(asked, &[beside], &[ratio]),
         ]);
     };
     let ours = |place: usize| move |x: f64, _: f64| OURS[place].sqrt(x);
     let modulus = |place: usize| move |p: f64, q: f64| OURS[place].hypot(p, q);
-    row("sqrt, each by itself", "the instruction behind a call", Some(6.0), &mut |k, place| match k {
+    row("sqrt, each by itself", "the instruction behind a call", Some(Asked::AtMost(6.0)), &mut |k, place| match k {
         0 => each(&numbers, &mut out, ours(place)),
         _ => each(&numbers, &mut out, |x, _| black_box(called_sqrt as extern "C" fn(f64) -> f64)(x)),
     });
-    row("sqrt, each by itself", "the bare instruction", Some(6.0), &mut |k, place| match k {
+    row("sqrt, each by itself", "the bare instruction", Some(Asked::AtMost(6.0)), &mut |k, place| match k {
         0 => each(&numbers, &mut out, ours(place)),
         _ => each(&numbers, &mut out, |x, _| hardware_sqrt(x)),
     });
-    row("sqrt, each after the last", "the bare instruction", Some(6.0), &mut |k, place| match k {
+    row("sqrt, each after the last", "the bare instruction", Some(Asked::AtMost(6.0)), &mut |k, place| match k {
         0 => in_turn(&numbers, ours(place)),
         _ => in_turn(&numbers, |x, _| hardware_sqrt(x)),
     });

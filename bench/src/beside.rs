@@ -1,7 +1,7 @@
 //! Times ours beside another archive with the same calls, such as that of the commit before: every row of
-//! the bench on these two alone, in one process, but for standardised values and the move that stops, calls
-//! that the other may lack. A figure is the mean of the middle times at the eight places of bench/places;
-//! the last column has the least and largest ratio at one of them.
+//! the bench on these two alone, in one process, but for standardised values, the move that stops and lists
+//! of moves, calls that the other may lack. A figure is the mean of the middle times at the eight places of
+//! bench/places; the last column has the least and largest ratio at one of them.
 
 use crate::archive::{OTHER, OURS};
 use crate::arithmetic::archives_times;

@@ -3,6 +3,9 @@
 
 use crate::rng::Rng;
 
+/// The moves that one list takes.
+const MOST_MOVES: usize = 64;
+
 #[derive(Clone, Copy, PartialEq)]
 pub enum Kind {
     Rows,
@@ -121,6 +124,14 @@ impl Form {
     pub fn adjacent(&self) -> Vec<(usize, usize)> {
         let (starts, middle) = (self.starts(), self.sizes.len() / 2);
         vec![(starts[middle], starts[middle - 1])]
+    }
+
+    /// As many moves as a list takes, each one exchange on a form of 1-blocks: the first block down row by
+    /// row, from the last row up again, and so on.
+    pub fn adjacent_list(&self) -> Vec<(usize, usize)> {
+        let last = self.n - 1;
+        let row_after = |moves: usize| (moves % (2 * last)).min(2 * last - moves % (2 * last));
+        (0..MOST_MOVES).map(|k| (row_after(k), row_after(k + 1))).collect()
     }
 
     pub fn last_to_first(&self) -> Vec<(usize, usize)> {

@@ -25,16 +25,33 @@ pub fn nanoseconds(x: f64, times: &Times) -> String {
     format!("{x:.digits$}{}", if times.shared { " *" } else { "" })
 }
 
-/// Compared as it is printed.
-fn above(x: Spread, most: f64) -> bool {
-    (x.middle * 100.0).round() / 100.0 > most
+/// What is asked of ratios.
+#[derive(Clone, Copy)]
+pub enum Asked {
+    AtMost(f64),
+    Below(f64),
 }
 
-/// The verdict on some ratios.
-fn verdict(most: f64, names: &[&str], ratios: &[Spread]) -> String {
-    let missed: Vec<&str> = names.iter().zip(ratios).filter(|(_, r)| above(**r, most)).map(|(name, _)| *name).collect();
-    let said = if missed.is_empty() { "met".to_string() } else { format!("NOT met: {}", missed.join(", ")) };
-    format!("≤ {most:.1} {said}")
+impl Asked {
+    /// Compared as it is printed.
+    fn missed_by(self, x: Spread) -> bool {
+        let printed = (x.middle * 100.0).round() / 100.0;
+        match self {
+            Asked::AtMost(most) => printed > most,
+            Asked::Below(limit) => printed >= limit,
+        }
+    }
+
+    /// The verdict on some ratios.
+    fn verdict(self, names: &[&str], ratios: &[Spread]) -> String {
+        let missed = names.iter().zip(ratios).filter(|(_, ratio)| self.missed_by(**ratio));
+        let missed: Vec<&str> = missed.map(|(name, _)| *name).collect();
+        let said = if missed.is_empty() { "met".to_string() } else { format!("NOT met: {}", missed.join(", ")) };
+        match self {
+            Asked::AtMost(most) => format!("≤ {most:?} {said}"),
+            Asked::Below(limit) => format!("< {limit:?} {said}"),
+        }
+    }
 }
 
 /// Ratios to the three others by row and size, and how many targets were met.
@@ -94,31 +111,31 @@ impl Report {
     }
 
     /// Keeps the ratios of a row, and hands back the verdict where something is asked of it.
-    pub fn add(&mut self, name: &str, n: usize, most: Option<f64>, ratios: &[Spread], times: &Times) -> String {
+    pub fn add(&mut self, name: &str, n: usize, asked: Option<Asked>, ratios: &[Spread], times: &Times) -> String {
         self.note(ratios, times);
         if self.rows.last().map_or(true, |row| row.0 != name) {
             self.rows.push((name.to_string(), Default::default()));
         }
-        let cell = |x: &Spread| match most {
-            Some(most) if above(*x, most) => format!("**{:.2}**", x.middle),
+        let cell = |x: &Spread| match asked {
+            Some(asked) if asked.missed_by(*x) => format!("**{:.2}**", x.middle),
             _ => format!("{:.2}", x.middle),
         };
         let cells: Vec<String> = ratios.iter().map(cell).collect();
         if let (Some(row), Some(at)) = (self.rows.last_mut(), SIZES.iter().position(|size| *size == n)) {
             row.1[at] = cells.join(" / ");
         }
-        self.judged(most, &NAMES[1..], ratios)
+        self.judged(asked, &NAMES[1..], ratios)
     }
 
     /// The verdict alone.
-    pub fn judged(&mut self, most: Option<f64>, names: &[&str], ratios: &[Spread]) -> String {
-        let most = match most {
-            Some(most) => most,
+    pub fn judged(&mut self, asked: Option<Asked>, names: &[&str], ratios: &[Spread]) -> String {
+        let asked = match asked {
+            Some(asked) => asked,
             None => return "–".to_string(),
         };
         self.asked += 1;
-        self.met += usize::from(!ratios.iter().any(|x| above(*x, most)));
-        verdict(most, names, ratios)
+        self.met += usize::from(!ratios.iter().any(|x| asked.missed_by(*x)));
+        asked.verdict(names, ratios)
     }
 
     /// The overview is for the document; the count comes in any case.

@@ -3,7 +3,7 @@
 use crate::forms::{Form, Kind};
 use crate::opaque::black_box;
 use crate::progress::on_terminal;
-use crate::sides::{Side, Values};
+use crate::sides::{List, Side, Values};
 use crate::timing::Times;
 use std::time::{Duration, Instant};
 
@@ -42,18 +42,26 @@ pub fn progress(text: &str) {
 }
 
 type Moves = fn(&Form) -> Vec<(usize, usize)>;
-/// A row's name, its moves, and its stride where that is not n.
-type KindOfMove = (&'static str, Moves, Option<usize>);
+/// A row's name, its moves, its stride where that is not n, and on which kinds and sizes of forms.
+type KindOfMove = (&'static str, Moves, Option<usize>, &'static [Kind], &'static [usize]);
 const KINDS_OF_MOVE: [KindOfMove; 5] = [
-    ("one adjacent move", Form::adjacent, None),
-    ("move last to first", Form::last_to_first, None),
-    ("reversal by moves", Form::reversal, None),
-    ("one adjacent move, stride 128", Form::adjacent, Some(STRIDE)),
-    ("move last to first, stride 128", Form::last_to_first, Some(STRIDE)),
+    ("one adjacent move", Form::adjacent, None, &Kind::ALL, &SIZES),
+    ("move last to first", Form::last_to_first, None, &Kind::ALL, &SIZES),
+    ("reversal by moves", Form::reversal, None, &Kind::ALL, &SIZES),
+    ("one adjacent move, stride 128", Form::adjacent, Some(STRIDE), &Kind::ALL, &SIZES),
+    ("move last to first, stride 128", Form::last_to_first, Some(STRIDE), &Kind::ALL, &SIZES),
 ];
 /// The same moves by the move that stops.
-const KINDS_OF_STOPPING: [KindOfMove; 2] =
-    [("stopping, last to first", Form::last_to_first, None), ("stopping, reversal", Form::reversal, None)];
+const KINDS_OF_STOPPING: [KindOfMove; 2] = [
+    ("stopping, last to first", Form::last_to_first, None, &Kind::ALL, &SIZES),
+    ("stopping, reversal", Form::reversal, None, &Kind::ALL, &SIZES),
+];
+/// Moves by the call that takes a list.
+const KINDS_OF_LIST: [KindOfMove; 3] = [
+    ("list, 64 adjacent", Form::adjacent_list, None, &[Kind::Rows], &[16, 32, 64]),
+    ("list, reversal", Form::reversal, None, &Kind::ALL, &[8, 16, 32, 64]),
+    ("list, 64 adjacent, stride 128", Form::adjacent_list, Some(STRIDE), &[Kind::Rows], &[64]),
+];
 
 /// A list of moves on a form.
 pub struct MoveRow {
@@ -76,16 +84,22 @@ impl MoveRow {
         MoveRow::wanted(plan, &KINDS_OF_STOPPING)
     }
 
+    /// The rows of a list in one call that are wanted.
+    pub fn lists(plan: &Plan) -> impl Iterator<Item = MoveRow> + '_ {
+        MoveRow::wanted(plan, &KINDS_OF_LIST)
+    }
+
     fn wanted<'a>(plan: &'a Plan, rows: &'static [KindOfMove]) -> impl Iterator<Item = MoveRow> + 'a {
-        let kinds = rows.iter().flat_map(|row| Kind::ALL.map(|kind| (*row, kind)));
-        let factors = kinds.flat_map(|row| [false, true].map(|with_factor| (row, with_factor)));
-        let all = factors.flat_map(|row| SIZES.map(|n| (row, n)));
-        all.filter_map(move |((((what, moves, stride), kind), with_factor), n)| {
-            let name = format!("{what} {} {}", kind.name(), if with_factor { "with factor" } else { "no factor" });
-            plan.wants(&name, Some(n)).then(|| {
-                progress(&format!("{name}, n = {n}"));
-                let form = Form::new(kind, n, SEED).spread(stride.unwrap_or(n));
-                MoveRow { what, name, kind, with_factor, moves: moves(&form), form }
+        rows.iter().flat_map(move |&(what, moves, stride, kinds, sizes)| {
+            let factors = kinds.iter().flat_map(|kind| [false, true].map(|with_factor| (*kind, with_factor)));
+            let all = factors.flat_map(move |row| sizes.iter().map(move |n| (row, *n)));
+            all.filter_map(move |((kind, with_factor), n)| {
+                let name = format!("{what} {} {}", kind.name(), if with_factor { "with factor" } else { "no factor" });
+                plan.wants(&name, Some(n)).then(|| {
+                    progress(&format!("{name}, n = {n}"));
+                    let form = Form::new(kind, n, SEED).spread(stride.unwrap_or(n));
+                    MoveRow { what, name, kind, with_factor, moves: moves(&form), form }
+                })
             })
         })
     }
@@ -110,7 +124,7 @@ impl MoveRow {
     pub fn times(&self, plan: &Plan, sides: &[Side]) -> Times {
         let MoveRow { form, moves, .. } = self;
         let (n, ld, places) = (form.n, form.ld, form.t.len());
-        let factor = form.factor(self.with_factor);
+        let (factor, mut list) = (form.factor(self.with_factor), List::of(moves));
         let fitting = BATCH_BYTES / (8 * (places + factor.len()));
         let copies = fitting.min(runs_that_fit(sides[0], form, &factor, moves)).clamp(1, MOST_COPIES);
         let (mut t, mut u) = (Lines::new(copies * places), Lines::new(copies * factor.len()));
@@ -125,12 +139,10 @@ impl MoveRow {
             for copy in 0..copies {
                 let t = &mut t[copy * places..][..places];
                 let u = &mut u[copy * factor.len()..][..factor.len()];
-                for &(from, to) in moves {
-                    black_box(side.reorder(n, ld, t, u, from, to));
-                }
+                side.reorder_all(n, ld, t, u, moves, &mut list);
             }
             let taken = start.elapsed();
-            black_box((&mut *t, &mut *u));
+            black_box((&mut *t, &mut *u, &mut list));
             taken
         })
     }
@@ -157,11 +169,9 @@ impl Lines {
 /// two, by the least of some runs, so that rows of the same call have as many.
 fn runs_that_fit(side: Side, form: &Form, factor: &[f64], moves: &[(usize, usize)]) -> usize {
     let time = |_| {
-        let (mut t, mut u) = (form.t.clone(), factor.to_vec());
+        let (mut t, mut u, mut list) = (form.t.clone(), factor.to_vec(), List::of(moves));
         let start = Instant::now();
-        for &(from, to) in moves {
-            black_box(side.reorder(form.n, form.ld, &mut t, &mut u, from, to));
-        }
+        side.reorder_all(form.n, form.ld, &mut t, &mut u, moves, &mut list);
         start.elapsed().as_nanos().max(1)
     };
     let runs = (BATCH_TIME.as_nanos() / (0..20).map(time).min().unwrap()) as usize;

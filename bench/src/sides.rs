@@ -4,6 +4,7 @@
 use crate::archive::{Archive, PLACES};
 use crate::arith;
 use crate::lapack::Lapack;
+use crate::opaque::black_box;
 use crate::shim::*;
 use crate::taken::{eigen, evd, householder, leaves};
 
@@ -13,6 +14,8 @@ pub enum Side {
     Archive(&'static [Archive; PLACES], usize),
     /// The same, with the move that stops for its move.
     Stopping(&'static [Archive; PLACES], usize),
+    /// The same, with one call for all the moves of a list.
+    List(&'static [Archive; PLACES], usize),
     Rust,
     Lapack(Lapack),
 }
@@ -23,6 +26,7 @@ impl Side {
         match self {
             Side::Archive(copies, _) => Side::Archive(copies, place),
             Side::Stopping(copies, _) => Side::Stopping(copies, place),
+            Side::List(copies, _) => Side::List(copies, place),
             _ => self,
         }
     }
@@ -36,15 +40,41 @@ impl Side {
                 let (number, stopped, _) = copies[*place].reorder_stopping(n, ld, t, u, from, to);
                 number + usize::from(stopped)
             }
+            Side::List(..) => unreachable!("this side takes a list, not a move"),
             Side::Rust => rust_reorder(n, ld, t, u, from, to),
             Side::Lapack(lapack) => lapack.reorder(n, ld, t, u, from, to) as usize,
+        }
+    }
+
+    /// Moves in turn: one call for each, or for all where the side takes a list.
+    #[inline(always)]
+    pub fn reorder_all(
+        &self,
+        n: usize,
+        ld: usize,
+        t: &mut [f64],
+        u: &mut [f64],
+        moves: &[(usize, usize)],
+        list: &mut List,
+    ) {
+        match self {
+            Side::List(copies, place) => {
+                black_box(copies[*place].reorder_list(n, ld, t, u, &list.moves, &mut list.results));
+            }
+            _ => {
+                for &(from, to) in moves {
+                    black_box(self.reorder(n, ld, t, u, from, to));
+                }
+            }
         }
     }
 
     #[inline(always)]
     pub fn vectors(&self, n: usize, ld: usize, t: &[f64], v: &mut [f64]) -> usize {
         match self {
-            Side::Archive(copies, place) | Side::Stopping(copies, place) => copies[*place].vectors(n, ld, t, v),
+            Side::Archive(copies, place) | Side::Stopping(copies, place) | Side::List(copies, place) => {
+                copies[*place].vectors(n, ld, t, v)
+            }
             Side::Rust => rust_vectors(n, ld, t, v),
             Side::Lapack(lapack) => lapack.vectors(n, ld, t, v) as usize,
         }
@@ -54,7 +84,7 @@ impl Side {
     #[inline(always)]
     pub fn values(&self, n: usize, ld: usize, t: &[f64], out: &mut Values) -> usize {
         match self {
-            Side::Archive(copies, place) | Side::Stopping(copies, place) => {
+            Side::Archive(copies, place) | Side::Stopping(copies, place) | Side::List(copies, place) => {
                 copies[*place].values(n, ld, t, &mut out.re, &mut out.im)
             }
             Side::Rust => rust_values(n, ld, t, &mut out.all),
@@ -67,7 +97,7 @@ impl Side {
     #[inline(always)]
     pub fn standardised(&self, n: usize, ld: usize, t: &[f64], out: &mut Values) -> usize {
         match self {
-            Side::Archive(copies, place) | Side::Stopping(copies, place) => {
+            Side::Archive(copies, place) | Side::Stopping(copies, place) | Side::List(copies, place) => {
                 return copies[*place].standardised(n, ld, t, &mut out.re, &mut out.im);
             }
             Side::Rust => rust_standardised(n, ld, t, &mut out.all),
@@ -82,13 +112,25 @@ impl Side {
     pub fn reflect(&self, column: &mut [f64], further: &mut [f64; 3]) -> usize {
         let (head, tail) = column.split_first_mut().unwrap();
         match self {
-            Side::Archive(copies, place) | Side::Stopping(copies, place) => {
+            Side::Archive(copies, place) | Side::Stopping(copies, place) | Side::List(copies, place) => {
                 return copies[*place].reflect(head, tail, further);
             }
             Side::Rust => rust_reflect(head, tail, further),
             Side::Lapack(lapack) => lapack.reflect(head, tail, &mut further[0]),
         }
         0
+    }
+}
+
+/// Moves as one call takes them, from and to of each in turn, and where it writes four results a move.
+pub struct List {
+    pub moves: Vec<usize>,
+    pub results: Vec<usize>,
+}
+
+impl List {
+    pub fn of(moves: &[(usize, usize)]) -> List {
+        List { moves: moves.iter().flat_map(|&(from, to)| [from, to]).collect(), results: vec![0; 4 * moves.len()] }
     }
 }
 

@@ -1,13 +1,13 @@
-//! Times moves, the move that stops, vectors, values, standardised values and reflections, and prints them
-//! as ratios.
+//! Times moves, the move that stops, a list of moves in one call, vectors, values, standardised values and
+//! reflections, and prints them as ratios.
 
 use crate::archive::OURS;
 use crate::arithmetic::arithmetic;
 use crate::forms::Form;
 use crate::reflections::ReflectionRow;
-use crate::report::{NAMES, Report, middle_time, shown};
+use crate::report::{Asked, NAMES, Report, middle_time, shown};
 use crate::rows::{FormRow, MoveRow, Plan, progress};
-use crate::sides::{Side, Values};
+use crate::sides::{List, Side, Values};
 use crate::table::Table;
 use crate::timing::Spread;
 
@@ -21,6 +21,10 @@ pub fn run(plan: &Plan, sides: &Sides) {
     let tables = [
         ("Moves", moves(plan, sides, report)),
         ("The move that stops, beside our own that goes on and dtrexc, which stops too", stopping(plan, sides, report)),
+        (
+            "A list of moves in one call, beside our own single calls, the Rust's and dtrexc's",
+            lists(plan, sides, report),
+        ),
         ("Vectors", vectors(plan, sides, report)),
         ("Values (LAPACK has no routine that only reads the values off a form)", values(plan, sides, report)),
         ("Values of a copy standardised first; LAPACK: dlanv2 for each 2-block", standardised(plan, sides, report)),
@@ -34,8 +38,8 @@ pub fn run(plan: &Plan, sides: &Sides) {
 
 /// What is asked of moves of more than one exchange and of vectors at the stride n, and nothing at
 /// another: docs/BENCHMARKS.md.
-fn target(form: &Form) -> Option<f64> {
-    (form.ld == form.n).then(|| if form.n >= 16 { 1.0 } else { 1.5 })
+fn target(form: &Form) -> Option<Asked> {
+    (form.ld == form.n).then(|| Asked::AtMost(if form.n >= 16 { 1.0 } else { 1.5 }))
 }
 
 fn moves(plan: &Plan, sides: &Sides, report: &mut Report) -> Table {
@@ -44,7 +48,7 @@ fn moves(plan: &Plan, sides: &Sides, report: &mut Report) -> Table {
     let mut table = Table::new(plan.markdown, &heads);
     for row in MoveRow::all(plan) {
         let n = row.form.n;
-        let swaps = check_moves(sides, &row);
+        let swaps = swaps_of(&check_moves(sides, &row));
         let times = row.times(plan, &sides.all);
         let ratios: Vec<Spread> = (1..4).map(|k| times.ratio(0, k, plan.least)).collect();
         report.same_call(format!("move {}", row.call()), &ratios);
@@ -65,25 +69,35 @@ fn moves(plan: &Plan, sides: &Sides, report: &mut Report) -> Table {
     table
 }
 
-/// Every side carries the moves out, ours as the Rust in every bit, none declines. Hands back the swaps.
-fn check_moves(sides: &Sides, row: &MoveRow) -> usize {
-    let Form { n, ld, .. } = row.form;
-    check_ours(sides, row, |t, u, from, to| OURS[0].reorder(n, ld, t, u, from, to))
+/// What a move gives: its number, the row, the swaps and how many declined.
+type Results = [usize; 4];
+
+fn swaps_of(results: &[Results]) -> usize {
+    results.iter().map(|[_, _, swaps, _]| swaps).sum()
 }
 
-/// The same of one of our moves.
-fn check_ours(
-    sides: &Sides,
-    row: &MoveRow,
-    ours: impl Fn(&mut [f64], &mut [f64], usize, usize) -> (usize, [usize; 3]),
-) -> usize {
+/// Every side carries the moves out, ours as the Rust in every bit, none declines. Hands back our results.
+fn check_moves(sides: &Sides, row: &MoveRow) -> Vec<Results> {
+    let Form { n, ld, .. } = row.form;
+    check_ours(sides, row, |t, u| {
+        let one = |&(from, to): &(usize, usize)| {
+            let (number, [landed, swaps, declined]) = OURS[0].reorder(n, ld, t, u, from, to);
+            [number, landed, swaps, declined]
+        };
+        row.moves.iter().map(one).collect()
+    })
+}
+
+/// The same of one of our calls, which makes all the moves.
+fn check_ours(sides: &Sides, row: &MoveRow, ours: impl FnOnce(&mut [f64], &mut [f64]) -> Vec<Results>) -> Vec<Results> {
     let MoveRow { form, with_factor, moves, .. } = row;
     let (n, ld) = (form.n, form.ld);
-    let (mut t, mut u, mut swaps) = (form.t.clone(), form.factor(*with_factor), 0);
-    for &(from, to) in moves {
-        let (number, out) = ours(&mut t, &mut u, from, to);
-        assert!(number == 0 && out[0] == to && out[2] == 0, "our move {from} to {to}: {number} {out:?}");
-        swaps += out[1];
+    let (mut t, mut u) = (form.t.clone(), form.factor(*with_factor));
+    let results = ours(&mut t, &mut u);
+    assert!(results.len() == moves.len(), "our results are those of {} moves", results.len());
+    for ((from, to), [number, landed, _, declined]) in moves.iter().zip(&results) {
+        let carried_out = *number == 0 && landed == to && *declined == 0;
+        assert!(carried_out, "our move {from} to {to}: {number}, landed {landed}, declined {declined}");
     }
     for (side, name) in sides.all.iter().zip(NAMES).skip(1) {
         let (mut t2, mut u2) = (form.t.clone(), form.factor(*with_factor));
@@ -95,7 +109,7 @@ fn check_ours(
             _ => (0..n).for_each(|i| assert!((t[i + ld * i] - t2[i + ld * i]).abs() < 1e-6, "{name} differs, row {i}")),
         }
     }
-    swaps
+    results
 }
 
 fn stopping(plan: &Plan, sides: &Sides, report: &mut Report) -> Table {
@@ -104,7 +118,7 @@ fn stopping(plan: &Plan, sides: &Sides, report: &mut Report) -> Table {
     let mut table = Table::new(plan.markdown, &heads);
     let [ours, _, lapack, openblas] = sides.all;
     for row in MoveRow::stopping(plan) {
-        let swaps = check_stopping(sides, &row);
+        let swaps = swaps_of(&check_stopping(sides, &row));
         let times = row.times(plan, &[Side::Stopping(&OURS, 0), ours, lapack, openblas]);
         let ratios: Vec<Spread> = (1..4).map(|k| times.ratio(0, k, plan.least)).collect();
         report.same_call(format!("stopping {}", row.call()), &ratios);
@@ -118,15 +132,66 @@ fn stopping(plan: &Plan, sides: &Sides, report: &mut Report) -> Table {
 
 /// The same of the move that stops, of which none does. No test fails on these forms, and no block is
 /// parted: so it is as the Rust's move in every bit, and has the row and the swaps of our own that goes on.
-fn check_stopping(sides: &Sides, row: &MoveRow) -> usize {
+fn check_stopping(sides: &Sides, row: &MoveRow) -> Vec<Results> {
     let Form { n, ld, .. } = row.form;
-    let swaps = check_ours(sides, row, |t, u, from, to| {
-        let (number, stopped, out) = OURS[0].reorder_stopping(n, ld, t, u, from, to);
-        assert!(!stopped, "our move {from} to {to} stops: {number} {out:?}");
-        (number, out)
+    let results = check_ours(sides, row, |t, u| {
+        let one = |&(from, to): &(usize, usize)| {
+            let (number, stopped, [here, swaps, declined]) = OURS[0].reorder_stopping(n, ld, t, u, from, to);
+            assert!(!stopped, "our move {from} to {to} stops in row {here}: {number}");
+            [number, here, swaps, declined]
+        };
+        row.moves.iter().map(one).collect()
     });
-    assert!(swaps == check_moves(sides, row), "our two moves differ in their swaps");
-    swaps
+    assert!(results == check_moves(sides, row), "our two moves differ in their results");
+    results
+}
+
+/// What is asked of a list at the stride n, and in which ratio: where each move is one exchange at most a
+/// third of the single calls' time at n = 64, of a reversal less than LAPACK's from n = 32 on.
+fn list_target(row: &MoveRow, swaps: usize) -> Option<(Asked, usize)> {
+    let Form { n, ld, .. } = row.form;
+    match swaps == row.moves.len() {
+        true if ld == n && n == 64 => Some((Asked::AtMost(0.333), 0)),
+        false if ld == n && n >= 32 => Some((Asked::Below(1.0), 2)),
+        _ => None,
+    }
+}
+
+fn lists(plan: &Plan, sides: &Sides, report: &mut Report) -> Table {
+    let names = ["single calls", "Rust", "LAPACK", "OpenBLAS"];
+    let ratio_heads = names.map(|name| format!("ours/{name}"));
+    let heads = ["", "blocks", "factor", "n", "moves", "swaps", "ours, ns"].into_iter();
+    let heads: Vec<&str> = heads.chain(ratio_heads.iter().map(String::as_str)).chain(["to reach"]).collect();
+    let mut table = Table::new(plan.markdown, &heads);
+    let [single, rust, lapack, openblas] = sides.all;
+    for row in MoveRow::lists(plan) {
+        let swaps = swaps_of(&check_list(sides, &row));
+        let times = row.times(plan, &[Side::List(&OURS, 0), single, rust, lapack, openblas]);
+        let ratios: Vec<Spread> = (1..5).map(|k| times.ratio(0, k, plan.least)).collect();
+        report.note(&ratios, &times);
+        let said = match list_target(&row, swaps) {
+            Some((asked, at)) => report.judged(Some(asked), &names[at..=at], &ratios[at..=at]),
+            None => report.judged(None, &[], &[]),
+        };
+        let cells = [row.what, row.kind.name(), row.factor()].map(str::to_string);
+        let numbers = [row.form.n, row.moves.len(), swaps].map(|x| x.to_string());
+        let times = [middle_time(&times, 0)].into_iter().chain(ratios.into_iter().map(shown));
+        table.add(cells.into_iter().chain(numbers).chain(times).chain([said]).collect());
+    }
+    table
+}
+
+/// The list in one call is as the Rust's moves in every bit, and has the results of our single calls.
+fn check_list(sides: &Sides, row: &MoveRow) -> Vec<Results> {
+    let Form { n, ld, .. } = row.form;
+    let results = check_ours(sides, row, |t, u| {
+        let mut list = List::of(&row.moves);
+        let number = OURS[0].reorder_list(n, ld, t, u, &list.moves, &mut list.results);
+        assert!(number == 0, "our list of {} moves: {number}", row.moves.len());
+        list.results.chunks(4).map(|four| [four[0], four[1], four[2], four[3]]).collect()
+    });
+    assert!(results == check_moves(sides, row), "our list and our single calls differ in their results");
+    results
 }
 
 fn bits(x: &[f64]) -> Vec<u64> {
