@@ -39,31 +39,30 @@ one_keeps f ld n P more t u = list_keeps f ld ld n (λ (r s : Listed). P r) (λ 
 
 -- ---- rows from n on
 
-itself : (ld n : ℕ) (t : List Float) → BeyondStays ld n t t
-itself ld n t = record { size = refl; beyond = λ i j g h. refl }
+beyond_itself : (ld n : ℕ) (t : List Float) → BeyondStays ld n t t
+beyond_itself ld n t = record { size = refl; beyond = λ i j g h. refl }
 
-then : (ld n : ℕ) (a b c : List Float) → BeyondStays ld n a b → BeyondStays ld n b c → BeyondStays ld n a c
-then ld n a b c x y = record { size = y.size ∙ x.size; beyond = λ i j g h. y.beyond i j g h ∙ x.beyond i j g h }
+beyond_then : (ld n : ℕ) (a b c : List Float) → BeyondStays ld n a b → BeyondStays ld n b c → BeyondStays ld n a c
+beyond_then ld n a b c x y = record { size = y.size ∙ x.size; beyond = λ i j g h. y.beyond i j g h ∙ x.beyond i j g h }
 
 pub list-beyond : ListBeyond
 unfolding one_more
 list-beyond =
     record {
-      form = λ f ld n t u ms rs. one_keeps f ld n (λ (s : Listed). BeyondStays ld n t s.form) (λ q p s h. then ld n t s.form _ h (rows-beyond.move_form f ld n s.form s.factor q.from q.to)) t u ms rs (itself ld n t);
-      factor = λ f ld n t u ms rs. one_keeps f ld n (λ (s : Listed). BeyondStays ld n u s.factor) (λ q p s h. then ld n u s.factor _ h (rows-beyond.move_factor f ld n s.form s.factor q.from q.to)) t u ms rs (itself ld n u);
+      form = λ f ld n t u ms rs. one_keeps f ld n (λ (s : Listed). BeyondStays ld n t s.form) (λ q p s h. beyond_then ld n t s.form _ h (rows-beyond.move_form f ld n s.form s.factor q.from q.to)) t u ms rs (beyond_itself ld n t);
+      factor = λ f ld n t u ms rs. one_keeps f ld n (λ (s : Listed). BeyondStays ld n u s.factor) (λ q p s h. beyond_then ld n u s.factor _ h (rows-beyond.move_factor f ld n s.form s.factor q.from q.to)) t u ms rs (beyond_itself ld n u);
     }
 
 -- ---- two strides
 
 pub list_strides : ListStrides
 unfolding one_more written
-list_strides f ld md n a b u v ms rs w h k =
-    list_keeps f ld md n (SameListed ld md n)
-    (λ q p r s e.
-    let m = two-strides.moves f ld md n r.form s.form r.factor s.factor q.from q.to w e.form e.factor in
-    record { answer = e.answer; form = m.form; factor = m.factor; results = rw (m.answer, m.landed, m.swaps, m.declined, e.results) })
-    a b u v ms rs
-    (record { answer = refl; form = h; factor = k; results = refl })
+list_strides f ld md n a b u v ms rs w h k = list_keeps f ld md n (SameListed ld md n) more a b u v ms rs (record { answer = refl; form = h; factor = k; results = refl })
+  where
+    more : (q : Pair) (p : ℕ) (r s : Listed) → SameListed ld md n r s → SameListed ld md n (one_more f ld n q p r) (one_more f md n q p s)
+    more q p r s e =
+        let m = two-strides.moves f ld md n r.form s.form r.factor s.factor q.from q.to w e.form e.factor in
+        record { answer = e.answer; form = m.form; factor = m.factor; results = rw (m.answer, m.landed, m.swaps, m.declined, e.results) }
 
 -- ---- sent back
 
@@ -80,34 +79,33 @@ list_sent_back =
 
 -- ---- with a factor and without
 
-module _ (f : Format) (ld n : ℕ) where
-  -- all but the factor
-  record Alike (r s : Moved) : Type 0 where
-    answer : r.answer ≡ s.answer
-    landed : r.landed ≡ s.landed
-    swaps : r.swaps ≡ s.swaps
-    declined : r.declined ≡ s.declined
-    form : r.form ≡ s.form
+-- all but the factor
+record Alike (r s : Moved) : Type 0 where
+  answer : r.answer ≡ s.answer
+  landed : r.landed ≡ s.landed
+  swaps : r.swaps ≡ s.swaps
+  declined : r.declined ≡ s.declined
+  form : r.form ≡ s.form
 
-  alike : (t u v : List Float) (from to : ℕ) → line4 ld n u ≡ line4 ld n v → Alike (move_call f ld n t u from to) (move_call f ld n t v from to)
-  unfolding called form_after answers_of factor_of with_factor with_factors Lengths
-  alike t u v from to h =
-      let e = same_without_lem f ld n t (u ∷ []) (a_move from to v ∷ []) (h, tt) in
-      let a = ap (λ (xs : List Answer). get_or xs 0 (called f ld n t (a_move from to v)).answer) e.answers in
-      record {
-        answer = ap (λ (x : Answer). x.number) a;
-        landed = ap (λ (x : Answer). x.landed) a;
-        swaps = ap (λ (x : Answer). x.swaps) a;
-        declined = ap (λ (x : Answer). x.declined) a;
-        form = e.form;
-      }
+alike : (f : Format) (ld n : ℕ) (t u v : List Float) (from to : ℕ) → line4 ld n u ≡ line4 ld n v → Alike (move_call f ld n t u from to) (move_call f ld n t v from to)
+unfolding called form_after answers_of factor_of with_factor with_factors Lengths
+alike f ld n t u v from to h =
+    let e = same_without_lem f ld n t (u ∷ []) (a_move from to v ∷ []) (h, tt) in
+    let a = ap (λ (xs : List Answer). get_or xs 0 (called f ld n t (a_move from to v)).answer) e.answers in
+    record {
+      answer = ap (λ (x : Answer). x.number) a;
+      landed = ap (λ (x : Answer). x.landed) a;
+      swaps = ap (λ (x : Answer). x.swaps) a;
+      declined = ap (λ (x : Answer). x.declined) a;
+      form = e.form;
+    }
 
 -- line 4 asks for a length alone, and a call leaves the factor as long as it was
 line4_stays : (f : Format) (ld n : ℕ) (t u : List Float) (from to : ℕ) → line4 ld n (move_call f ld n t u from to).factor ≡ line4 ld n u
 unfolding line4
 line4_stays f ld n t u from to = rw (rows-beyond.move_factor f ld n t u from to).size refl
 
--- and line 4 tells the same of both factors
+-- two states alike but for their factors, of which line 4 tells the same
 record Without (ld n : ℕ) (r s : Listed) : Type 0 where
   same : SameButFactor r s
   lines : line4 ld n r.factor ≡ line4 ld n s.factor
