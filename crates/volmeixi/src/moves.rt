@@ -1,9 +1,13 @@
-// Exchange and moves, with the stride ld after n. The factor may be of length 0: none. Turned away, the counts are 0.
+// Exchange, moves and lists of moves, with the stride ld after n. The factor may be of length 0: none. Turned away, the
+// counts are 0.
 ghost use Rattle.std.specs.Prelude.{◌≡◌};
 ghost use Rattle.std.specs.Float.{binary64};
 ghost use Rattle.model.specs.Exchange as Exchange;
 ghost use Rattle.model.specs.Move as Move;
 ghost use Rattle.model.specs.Stopping as Stopping;
+ghost use Rattle.model.specs.Lists as Lists;
+
+use refusal::number;
 
 // The n1 rows from row j0 on exchanged with the n2 below them; swaps and declined.
 #[unsafe(no_mangle)]
@@ -97,4 +101,19 @@ pub extern "C" fn vx_reorder_schur_stopping(
             usize::from(refusal)
         }
     }
+}
+
+// The moves of a list from, to, from, to, .. in turn; of each pair its number, landed, swaps and declined.
+#[unsafe(no_mangle)]
+pub extern "C" fn vx_reorder_schur_list(
+    n: usize,
+    ld: usize,
+    t: &mut [f64],
+    u: &mut [f64],
+    moves: &[usize],
+    results: &mut [usize],
+) -> usize
+    ensures { (record { answer = result; form = t.new; factor = u.new; results = results.new }) ≡ Lists.list_call binary64 ld n t.old u.old moves.now results.old }
+{
+    number(&lists::reorder::reorder_schur_list(n, ld, t, u, moves, results))
 }
