@@ -3,6 +3,7 @@
 use crate::bindings::*;
 use crate::calls;
 use crate::record::Record;
+use crate::refuse::MOST_PAIRS;
 use crate::{fault, stride};
 use std::io;
 
@@ -72,6 +73,7 @@ fn run(case: &Record) -> Option<Record> {
         "schur_swap" => exchange(case)?,
         "reorder_schur" => reorder(case)?,
         "reorder_schur_stopping" => reorder_stopping(case)?,
+        "reorder_schur_list" => reorder_list(case)?,
         "block_values" => values(case, vx_block_values()?),
         "standardised_values" => values(case, vx_standardised_values()?),
         "evd_from_real_schur" => vectors(case)?,
@@ -200,6 +202,22 @@ fn reorder_stopping(case: &Record) -> Option<Record> {
     };
     let results = [usize::from(stopped), here, swaps, declined];
     Some(calls::counts(numbered(case, number), calls::STOPPED, &results).list("t", t).list("u", u))
+}
+
+/// The answer is marked if the call wrote to the moves, or past the results.
+fn reorder_list(case: &Record) -> Option<Record> {
+    let f = vx_reorder_schur_list()?;
+    let (mut t, mut u) = (case.l("t").to_vec(), case.l("u").to_vec());
+    let (n, ld, moves, len) = (case.n("n"), stride::of(case), case.ns("moves").to_vec(), case.ns("results").len());
+    let past = [UNWRITTEN as usize; 4 * (MOST_PAIRS + 1)];
+    let mut room = [case.ns("results"), &past].concat();
+    let number = unsafe {
+        f(n, ld, t.as_mut_ptr(), t.len(), u.as_mut_ptr(), u.len(), moves.as_ptr(), moves.len(), room.as_mut_ptr(), len)
+    };
+    let (results, after) = room.split_at(len);
+    let answer = numbered(case, number).list("t", t).list("u", u).nums("results", results.to_vec());
+    let answer = if after == past { answer } else { answer.nums("past", after.to_vec()) };
+    Some(if moves == case.ns("moves") { answer } else { answer.nums("written", moves) })
 }
 
 /// The values by one of the two readings, which take the same arguments.

@@ -22,6 +22,7 @@ macro_rules! archive {
 type Read = *const f64;
 type Write = *mut f64;
 type Count = *mut usize;
+type Counts = *const usize;
 /// A bool of C, as the byte that it is.
 type Mark = *mut u8;
 
@@ -50,6 +51,9 @@ archive! {
     vx_reorder_schur(usize, usize, Write, usize, Write, usize, usize, usize, Count, Count, Count) -> usize;
     vx_reorder_schur_stopping(
         usize, usize, Write, usize, Write, usize, usize, usize, Mark, Count, Count, Count
+    ) -> usize;
+    vx_reorder_schur_list(
+        usize, usize, Write, usize, Write, usize, Counts, usize, Count, usize
     ) -> usize;
     vx_block_values(usize, usize, Read, usize, Write, usize, Write, usize) -> usize;
     vx_standardised_values(usize, usize, Read, usize, Write, usize, Write, usize) -> usize;

@@ -1,7 +1,9 @@
 //! Each call of document 01: turned away by refuse.rs, or run by the Rust in taken.rs; the move that
-//! stops by stopping.rs. With a stride, the same on the corners of the buffers.
+//! stops by stopping.rs, a list of moves by lists.rs. With a stride, the same on the corners of the
+//! buffers.
 
 use crate::arith;
+use crate::lists;
 use crate::note::{self, Notes};
 use crate::record::{Record, Value};
 use crate::refuse::{self, MOST_ROWS, Passed};
@@ -70,6 +72,7 @@ fn run(case: &Record) -> Record {
         "schur_swap" => exchange(case),
         "reorder_schur" => reorder(case),
         "reorder_schur_stopping" => reorder_stopping(case),
+        "reorder_schur_list" | "reorder_schur_list_ld" => lists::reorder(case),
         "block_values" => values(case, as_they_stand),
         "standardised_values" => values(case, standardised),
         "evd_from_real_schur" => vectors(case),

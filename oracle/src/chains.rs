@@ -1,13 +1,14 @@
-//! Chains of moves, moves that stop and exchanges, each on the form as the call before left it: the
-//! Rust beside the archive, and what Note 13 of document 02 says of the Rust itself. And chains of
-//! sheets: each request has the lines of the form and the factor as the sheet before printed them.
+//! Chains of moves, moves that stop, exchanges and lists of moves, each on the form as the call before
+//! left it: the Rust beside the archive, and what Note 13 of document 02 says of the Rust itself. And
+//! chains of sheets: each request has the lines of the form and the factor as the sheet before printed
+//! them.
 
 use crate::compare::{self, Plan, SHOWN};
 use crate::generate::{self, Sizes, rng::Rng};
 use crate::progress::Progress;
 use crate::record::Record;
 use crate::tally::Tally;
-use crate::{archive, calls, refuse, sheet, stride};
+use crate::{archive, calls, lists, refuse, sheet, stride};
 use std::collections::BTreeMap;
 use std::{fmt, io};
 
@@ -60,7 +61,8 @@ fn each(plan: &Plan, mut chain: impl FnMut(u64) -> io::Result<Option<String>>) -
 }
 
 /// A chain up to its end, or to the first call at which something is wrong: then this call, and what.
-/// Either side goes on with its own form.
+/// Either side goes on with its own form. A list of moves must give what the archive's single moves in
+/// turn give on the same form.
 fn chain(
     seed: u64,
     index: u64,
@@ -79,7 +81,7 @@ fn chain(
         let tally = met.entry(case.call).or_default();
         tally.add(&case, &rust, &notes);
         seen(&case).for_each(|class| *tally.classes.entry(class).or_default() += 1);
-        let wrong = wrong(&case, &rust, &ours);
+        let wrong = wrong(&case, &rust, &ours).or(not_in_turn(&given, &ours, &archive)?);
         if wrong.is_some() {
             return Ok(wrong);
         }
@@ -169,20 +171,40 @@ fn wrong(case: &Record, rust: &Record, ours: &Record) -> Option<String> {
     if let Some(place) = rust.difference(&ours) {
         return Some(compare::told(case, &rust, &ours, &place));
     }
-    let number = rust.n("answer");
-    if matches!(number, 2 | 3 | 5 | 6 | 17) {
+    let numbers = numbers(case, &rust);
+    if let Some(number) = numbers.iter().find(|number| matches!(number, 2 | 3 | 5 | 6 | 17)) {
         return Some(format!("{case}\n  is turned away by line {number}"));
     }
     let left = case.clone().list_set("t", rust.l("t").to_vec());
     if let Err(line) = refuse::form(case.n("n"), &stride::form(&left)) {
         return Some(format!("{case}\n  leaves a form that line {line} turns away\n  the Rust:    {rust}"));
     }
-    if number == 4 || case.l("u").is_empty() {
+    if numbers.contains(&4) || case.l("u").is_empty() {
         return None;
     }
     let (without, _) = calls::answer(&case.clone().list_set("u", Vec::new()));
     let place = rust.clone().list_set("u", Vec::new()).difference(&without)?;
     Some(format!("{case}\n  without a factor differs first in {place}\n  with:    {rust}\n  without: {without}"))
+}
+
+/// The call's number, and those of its pairs.
+fn numbers(case: &Record, answer: &Record) -> Vec<usize> {
+    let number = std::iter::once(answer.n("answer"));
+    if case.find("moves").is_none() {
+        return number.collect();
+    }
+    number.chain(lists::fours(case, answer).map(|four| four[0])).collect()
+}
+
+/// Where a list of moves differs from single moves in turn, by one side alone.
+fn not_in_turn(case: &Record, answer: &Record, side: impl Fn(&Record) -> Option<Record>) -> io::Result<Option<String>> {
+    if case.find("moves").is_none() {
+        return Ok(None);
+    }
+    let in_turn = lists::in_turn(case, side).ok_or_else(|| compare::absent(case))?.settled();
+    let answer = answer.clone().settled();
+    let told = |place| format!("{case}\n  in turn differs first in {place}\n  at once: {answer}\n  in turn: {in_turn}");
+    Ok(answer.difference(&in_turn).map(told))
 }
 
 #[cfg(test)]
@@ -199,20 +221,26 @@ mod tests {
     #[test]
     fn the_rust_takes_back_what_it_left() {
         let mut met = Met::default();
-        for index in 0..400 {
+        for index in 0..600 {
             assert_eq!(chain(5, index, USUAL, rust, &mut met).unwrap(), None);
         }
-        assert_eq!(met.values().map(|tally| tally.cases).sum::<u64>(), 400 * LENGTH);
-        assert_eq!(met.len(), 6);
+        assert_eq!(met.values().map(|tally| tally.cases).sum::<u64>(), 600 * LENGTH);
+        assert_eq!(met.len(), 8);
         for (call, tally) in &met {
-            let exchange = stride::base_of(call) == "schur_swap";
-            let lines = if exchange { &[0, 4, 7, 8, 9, 10][..] } else { &[0, 4, 7] };
+            let lines = match stride::base_of(call) {
+                "schur_swap" => &[0, 4, 7, 8, 9, 10][..],
+                lists::CALL => &[0, 12],
+                _ => &[0, 4, 7],
+            };
             assert_eq!(tally.answers.keys().copied().collect::<Vec<_>>(), lines, "{call}");
+            let pairs = if call.contains("list") { &[0, 4, 7][..] } else { &[] };
+            assert_eq!(tally.numbers.keys().copied().collect::<Vec<_>>(), pairs, "{call}");
             assert!(tally.split > 0 && tally.declined > 0, "{call}: {tally}");
             let stops = ["stopped at 1-2", "stopped at 2-1", "stopped at 2-2"];
             let forms = ["a NaN in the form", "an infinity in the form", "a 2-block in the form"];
             let stops = if call.contains("stopping") { &stops[..] } else { &[] };
-            stops.iter().chain(&forms).for_each(|class| assert!(tally.classes[class] > 0, "{call}: {tally}"));
+            let met = |class: &&str| tally.classes.contains_key(*class);
+            stops.iter().chain(&forms).for_each(|class| assert!(met(class), "{class}: {call}: {tally}"));
         }
     }
 
@@ -271,6 +299,22 @@ mod tests {
         told(left(&[1, 5]), "leaves a form that line 6 turns away");
         told(left(&[3]), "without a factor differs first in t[3]");
         told(right.clone().num_set("landed", 0), "without a factor differs first in landed");
+
+        let list = Record::new("reorder_schur_list").num("n", 3).nums("moves", vec![0, 2, 2, 1]);
+        let list = list.list("t", case.l("t").to_vec()).list("u", Vec::new()).nums("results", vec![9; 9]);
+        let listed = rust(&list).unwrap();
+        let with = |place: usize, x: usize| {
+            let mut results = listed.ns("results").to_vec();
+            results[place] = x;
+            listed.clone().nums_set("results", results)
+        };
+        let wrong_of = |answer: &Record| wrong(&list, answer, answer);
+        assert_eq!(wrong_of(&listed), None);
+        assert!(wrong(&list, &listed, &with(8, 0)).unwrap().contains("differs first in results[8]"));
+        assert!(wrong_of(&with(4, 6)).unwrap().contains("is turned away by line 6"));
+        let in_turn = |answer: &Record| not_in_turn(&list, answer, rust).unwrap();
+        assert_eq!(in_turn(&listed), None);
+        assert!(in_turn(&with(6, 2)).unwrap().contains("in turn differs first in results[6]"));
 
         let mut met = Met::default();
         let another = |case: &Record| rust(case).map(|answer| answer.num_set("declined", 99));

@@ -1,5 +1,5 @@
 //! What a run of the Rust leaves behind beside its buffers: swaps, declines, splits, the row, how
-//! 2-blocks were read, what a move that stops met.
+//! 2-blocks were read, what a move that stops met; of a list of moves, the sums.
 
 use std::cell::Cell;
 
@@ -21,6 +21,8 @@ pub struct Notes {
     pub stop: Option<(usize, usize, usize)>,
     /// 2-blocks that standardising left with b zero and c not, and that were then exchanged.
     pub zero_b: usize,
+    /// The pairs of a list of moves with a split.
+    pub split_pairs: usize,
 }
 
 thread_local! {
@@ -35,6 +37,7 @@ thread_local! {
             odd: 0,
             stop: None,
             zero_b: 0,
+            split_pairs: 0,
         })
     };
 }
@@ -50,6 +53,17 @@ fn change(f: impl Fn(&mut Notes)) {
 /// Hands out the notes taken so far and starts afresh.
 pub fn take() -> Notes {
     NOTES.with(Cell::take)
+}
+
+/// Takes down what the single moves of a list left behind: the sums of what moves count.
+pub fn in_turn(moves: &[Notes]) {
+    let sum = |count: fn(&Notes) -> usize| moves.iter().map(count).sum::<usize>();
+    change(|n| {
+        n.swaps += sum(|notes| notes.swaps);
+        n.declined += sum(|notes| notes.declined);
+        n.splits += sum(|notes| notes.splits);
+        n.split_pairs += sum(|notes| usize::from(notes.splits > 0));
+    });
 }
 
 /// The notes taken so far.

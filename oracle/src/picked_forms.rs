@@ -3,9 +3,11 @@
 use crate::calls;
 use crate::generate::floats::next_up;
 use crate::generate::{self, Sizes};
+use crate::lists;
 use crate::note::Notes;
 use crate::picked::ODD;
 use crate::picked_blocks;
+use crate::picked_lists;
 use crate::picked_stops;
 use crate::picked_strides;
 use crate::record::{Record, Value};
@@ -30,6 +32,7 @@ pub fn picked(call: &'static str) -> Vec<Record> {
     match call {
         "reorder_schur" => moves(),
         "reorder_schur_stopping" => picked_stops::picked(),
+        "reorder_schur_list" => picked_lists::picked(),
         "schur_swap" => exchanges(),
         "block_values" => values(call, kinds()),
         "standardised_values" => values(call, picked_blocks::forms()),
@@ -68,7 +71,7 @@ pub fn form(sizes: &[usize]) -> Vec<f64> {
 }
 
 /// The rows of a square, of its numbers.
-fn rows(t: &[f64]) -> usize {
+pub fn rows(t: &[f64]) -> usize {
     (t.len() as f64).sqrt() as usize
 }
 
@@ -113,9 +116,12 @@ pub fn unit(n: usize) -> Vec<f64> {
 
 // ---- drawn cases
 
+/// The number of a case's answer; of a list of moves that gives 0, of its first pair.
 pub fn number(case: &Record) -> Option<usize> {
     let (answer, _) = calls::answer(case);
-    answer.find("answer").map(|_| answer.n("answer"))
+    answer.find("answer")?;
+    let first = case.find("moves").and_then(|_| lists::fours(case, &answer).next());
+    Some(first.map_or(answer.n("answer"), |four| four[0]))
 }
 
 pub fn accepted(case: &Record) -> bool {
@@ -153,6 +159,13 @@ pub fn list_set(mut case: Record, key: &str, change: impl Fn(&mut Vec<f64>)) -> 
     case
 }
 
+pub fn nums_set(mut case: Record, key: &str, change: impl Fn(&mut Vec<usize>)) -> Record {
+    if let Some(Value::Nums(list)) = case.find_mut(key) {
+        change(list);
+    }
+    case
+}
+
 // ---- refusals, of forms with four rows
 
 /// The case turned away by the line, and by no earlier one.
@@ -160,6 +173,7 @@ pub fn spoilt(case: Record, line: usize) -> Record {
     let ld = stride::of(&case);
     match (line, stride::base_of(case.call)) {
         (17, _) => case.num_set("ld", stride::MOST + 1),
+        (12, _) => nums_set(case, "moves", |moves| moves.push(0)),
         (2, _) => case.num_set("n", TOO_MANY),
         (3, _) => list_set(case, "t", |t| t.push(7.0)),
         (4, "block_values" | "standardised_values") => list_set(case, "im", |im| im.push(7.0)),
@@ -168,6 +182,7 @@ pub fn spoilt(case: Record, line: usize) -> Record {
         (5, _) => list_set(case, "t", |t| t[3] = -1.0),
         (6, _) => list_set(case, "t", |t| (t[1], t[2 + ld]) = (-0.5, 3.0)),
         (7, "reorder_schur" | "reorder_schur_stopping") => case.num_set("to", OUTSIDE),
+        (7, "reorder_schur_list") => nums_set(case, "moves", |moves| moves[1] = OUTSIDE),
         (7, "column") => case.num_set("col", OUTSIDE),
         (7, _) => case.num_set("j0", OUTSIDE),
         (8, _) => case.num_set("n1", 3),
@@ -469,6 +484,7 @@ mod tests {
         let bases = [
             (a_move(form(&[2, 1, 1]), unit(4), 3, 0), vec![2, 3, 4, 5, 6, 7]),
             (picked_stops::base(), vec![2, 3, 4, 5, 6, 7]),
+            (picked_lists::base(), vec![12, 2, 3, 4, 5, 6, 7]),
             (an_exchange(form(&[2, 1, 1]), unit(4), 0, 2, 1), vec![2, 3, 4, 5, 6, 7, 8, 9, 10]),
             (of_form("block_values", form(&[2, 1, 1])), vec![2, 3, 4, 5, 6]),
             (of_form("standardised_values", form(&[2, 1, 1])), vec![2, 3, 4, 5, 6]),
@@ -476,7 +492,8 @@ mod tests {
         ];
         for (base, mut lines) in bases {
             told_in_order(&base, &lines);
-            lines.insert(1, 17);
+            let size = lines.iter().position(|line| *line == 2).expect("a number of rows");
+            lines.insert(size + 1, 17);
             told_in_order(&stride::spread(&base, 6, |_, _, _| f64::NAN), &lines);
         }
     }

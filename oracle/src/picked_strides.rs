@@ -4,6 +4,7 @@
 use crate::note::Notes;
 use crate::picked_blocks;
 use crate::picked_forms::*;
+use crate::picked_lists::{self, a_list};
 use crate::picked_stops::{self, a_stopping_move};
 use crate::record::{Record, Value};
 use crate::stride::{self, MOST, SQUARES};
@@ -31,6 +32,7 @@ pub fn picked(call: &'static str) -> Vec<Record> {
     match call {
         "reorder_schur_ld" => moves(),
         "reorder_schur_stopping_ld" => stopping_moves(),
+        "reorder_schur_list_ld" => lists(),
         "schur_swap_ld" => exchanges(),
         "block_values_ld" => on_forms("block_values"),
         "standardised_values_ld" => standardised_values(),
@@ -105,7 +107,8 @@ fn other_lengths(case: &Record, key: &str) -> Vec<Record> {
 fn refused(base: &Record, lines: &[usize]) -> Vec<Record> {
     let case = spread(base, LD);
     let mut cases = refusals(&case, lines);
-    cases.extend(with_another(base, &lines[2..]));
+    let later = lines.iter().skip_while(|line| **line != 17).skip(1).copied().collect::<Vec<_>>();
+    cases.extend(with_another(base, &later));
     cases.extend(sizes(&case));
     cases.extend(other_strides(base));
     for (key, value) in &case.fields {
@@ -173,6 +176,24 @@ fn stopping_moves() -> Vec<Record> {
     }
     cases.push(spread(&a_stopping_move(form(&turns(33)), Vec::new(), 32, 0), 34));
     cases.push(spread(&a_stopping_move(form(&turns(64)), unit(64), 63, 0), MOST));
+    cases
+}
+
+/// Small lists, one of 64 pairs, and all pairs turned away for the form's sake and the buffers'.
+fn lists() -> Vec<Record> {
+    let mut cases = in_strides(&a_list(form(&[1]), vec![3.0], &[(0, 0)]));
+    cases.extend(in_strides(&a_list(form(&[1, 1]), unit(2), &[(1, 0), (0, 2), (0, 1)])));
+    cases.push(spread(&a_list(form(&[2]), unit(2), &[]), 3));
+    for (n1, n2) in PAIRS {
+        let n = n1 + n2;
+        let there_and_back = [(0, n - 1), (n - 1, 0)];
+        cases.push(spread(&a_list(form(&[n1, n2]), content(n, n * n), &there_and_back), n + 3));
+    }
+    cases.extend(picked_lists::met().iter().filter(|case| case.n("n") < 7).map(|case| spread(case, case.n("n") + 1)));
+    cases.extend(fills(&a_list(form(&[2, 1]), content(3, 9), &[(0, 2), (3, 0), (1, 0)]), 5));
+    cases.extend(refused(&picked_lists::base(), &[12, 2, 17, 3, 4, 5, 6, 7]));
+    cases.extend(picked_lists::of_other_lengths().iter().skip(9).map(|case| spread(case, 4)));
+    cases.push(spread(&picked_lists::longest(64), 66));
     cases
 }
 
@@ -259,6 +280,7 @@ mod tests {
         let calls = [
             ("reorder_schur_ld", &[7][..]),
             ("reorder_schur_stopping_ld", &[7]),
+            ("reorder_schur_list_ld", &[7, 12]),
             ("schur_swap_ld", &[7, 8, 9, 10]),
             ("block_values_ld", &[]),
             ("standardised_values_ld", &[]),

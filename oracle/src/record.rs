@@ -1,5 +1,5 @@
 //! Cases and answers: a call's name and named fields, and their text, one line each.
-//! `CALL key=value ...`, floats as 16 hexadecimal digits, lists joined by commas.
+//! `CALL key=value ...`, floats as 16 hexadecimal digits, lists joined by commas, whole numbers decimal.
 
 use std::fmt;
 
@@ -8,6 +8,7 @@ pub enum Value {
     Num(usize),
     Float(f64),
     List(Vec<f64>),
+    Nums(Vec<usize>),
     Bytes(Vec<u8>),
 }
 
@@ -16,6 +17,7 @@ pub enum Kind {
     Num,
     Float,
     List,
+    Nums,
     Bytes,
 }
 
@@ -39,6 +41,17 @@ const MOVE_LD: &[(&str, Kind)] = &[
     ("u", Kind::List),
     ("from", Kind::Num),
     ("to", Kind::Num),
+];
+// The moves before the buffers, as a stored line has them.
+const MOVES: &[(&str, Kind)] =
+    &[("n", Kind::Num), ("moves", Kind::Nums), ("t", Kind::List), ("u", Kind::List), ("results", Kind::Nums)];
+const MOVES_LD: &[(&str, Kind)] = &[
+    ("n", Kind::Num),
+    ("ld", Kind::Num),
+    ("moves", Kind::Nums),
+    ("t", Kind::List),
+    ("u", Kind::List),
+    ("results", Kind::Nums),
 ];
 const VALUES: &[(&str, Kind)] = &[("n", Kind::Num), ("t", Kind::List), ("re", Kind::List), ("im", Kind::List)];
 const VALUES_LD: &[(&str, Kind)] =
@@ -75,6 +88,7 @@ pub const CALLS: &[Call] = &[
     ),
     call("reorder_schur", MOVE),
     call("reorder_schur_stopping", MOVE),
+    call("reorder_schur_list", MOVES),
     call("block_values", VALUES),
     call("standardised_values", VALUES),
     call("evd_from_real_schur", &[("n", Kind::Num), ("t", Kind::List), ("v", Kind::List)]),
@@ -94,6 +108,7 @@ pub const CALLS: &[Call] = &[
     ),
     call("reorder_schur_ld", MOVE_LD),
     call("reorder_schur_stopping_ld", MOVE_LD),
+    call("reorder_schur_list_ld", MOVES_LD),
     call("block_values_ld", VALUES_LD),
     call("standardised_values_ld", VALUES_LD),
     call("evd_from_real_schur_ld", &[("n", Kind::Num), ("ld", Kind::Num), ("t", Kind::List), ("v", Kind::List)]),
@@ -133,6 +148,10 @@ impl Record {
         self.with(key, Value::List(x))
     }
 
+    pub fn nums(self, key: &'static str, x: Vec<usize>) -> Record {
+        self.with(key, Value::Nums(x))
+    }
+
     pub fn find(&self, key: &str) -> Option<&Value> {
         self.fields.iter().find(|f| f.0 == key).map(|f| &f.1)
     }
@@ -157,6 +176,10 @@ impl Record {
         self.set(key, Value::List(to))
     }
 
+    pub fn nums_set(self, key: &str, to: Vec<usize>) -> Record {
+        self.set(key, Value::Nums(to))
+    }
+
     pub fn f(&self, key: &str) -> f64 {
         match self.find(key) {
             Some(Value::Float(x)) => *x,
@@ -175,6 +198,13 @@ impl Record {
         match self.find(key) {
             Some(Value::List(x)) => x,
             other => panic!("{}: {key} is {other:?}, not a list", self.call),
+        }
+    }
+
+    pub fn ns(&self, key: &str) -> &[usize] {
+        match self.find(key) {
+            Some(Value::Nums(x)) => x,
+            other => panic!("{}: {key} is {other:?}, not a list of whole numbers", self.call),
         }
     }
 
@@ -247,6 +277,10 @@ fn unlike(a: &Value, b: &Value) -> Option<String> {
             let at = x.iter().zip(y).position(|(x, y)| x.to_bits() != y.to_bits())?;
             return Some(format!("[{at}]"));
         }
+        (Value::Nums(x), Value::Nums(y)) if x.len() == y.len() => {
+            let at = x.iter().zip(y).position(|(x, y)| x != y)?;
+            return Some(format!("[{at}]"));
+        }
         _ => a == b,
     };
     if same { None } else { Some(String::new()) }
@@ -258,6 +292,8 @@ fn parse_value(kind: Kind, text: &str) -> Option<Value> {
         Kind::Float => Value::Float(parse_float(text)?),
         Kind::List if text.is_empty() => Value::List(Vec::new()),
         Kind::List => Value::List(text.split(',').map(parse_float).collect::<Option<_>>()?),
+        Kind::Nums if text.is_empty() => Value::Nums(Vec::new()),
+        Kind::Nums => Value::Nums(text.split(',').map(|x| x.parse().ok()).collect::<Option<_>>()?),
         Kind::Bytes => Value::Bytes(parse_bytes(text)?),
     })
 }
@@ -281,14 +317,14 @@ impl fmt::Display for Record {
                 Value::Num(x) => write!(f, "{x}")?,
                 Value::Float(x) => write!(f, "{:016x}", x.to_bits())?,
                 Value::Bytes(bytes) => bytes.iter().try_for_each(|b| write!(f, "{b:02x}"))?,
-                Value::List(xs) => {
-                    for (i, x) in xs.iter().enumerate() {
-                        let comma = if i == 0 { "" } else { "," };
-                        write!(f, "{comma}{:016x}", x.to_bits())?;
-                    }
-                }
+                Value::List(xs) => joined(f, xs.iter().map(|x| format!("{:016x}", x.to_bits())))?,
+                Value::Nums(xs) => joined(f, xs.iter().map(usize::to_string))?,
             }
         }
         Ok(())
     }
+}
+
+fn joined(f: &mut fmt::Formatter<'_>, words: impl Iterator<Item = String>) -> fmt::Result {
+    f.write_str(&words.collect::<Vec<_>>().join(","))
 }

@@ -1,5 +1,5 @@
 //! Lines 2 to 11 of document 01's list, in its order: when a call is turned away. With a stride, line
-//! 17 comes after 2. Line 1, on the program's text, is in sheet.rs.
+//! 17 comes after 2; of a list of moves, line 12 before it. Line 1, on the program's text, is in sheet.rs.
 
 use crate::stride;
 
@@ -8,6 +8,7 @@ pub type Passed = Result<(), usize>;
 
 pub const MOST_ROWS: usize = 64;
 pub const LONGEST_TAIL: usize = 64;
+pub const MOST_PAIRS: usize = 64;
 
 fn line(number: usize, applies: bool) -> Passed {
     if applies { Err(number) } else { Ok(()) }
@@ -49,6 +50,12 @@ pub fn reorder(most: usize, n: usize, t: &[f64], u: &[f64], from: usize, to: usi
     factor(n, n, u)?;
     form(n, t)?;
     line(7, from >= n || to >= n)
+}
+
+/// What a list of moves is turned away for itself; its pairs are turned away one by one.
+pub fn list(moves: &[usize], results: &[usize]) -> Passed {
+    let pairs = moves.len() / 2;
+    line(12, moves.len() % 2 != 0 || pairs > MOST_PAIRS || results.len() < 4 * pairs)
 }
 
 pub fn exchange(n: usize, t: &[f64], u: &[f64], j0: usize, n1: usize, n2: usize) -> Passed {

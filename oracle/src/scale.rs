@@ -12,10 +12,11 @@ pub const SEED: u64 = 20_261_116;
 const SMALL: u64 = 10_000_000;
 const LARGE: u64 = 100_000;
 const LARGE_FORMS: Sizes = Sizes { least: 33, most: 64 };
-const WITH_A_FORM: [&str; 6] = [
+const WITH_A_FORM: [&str; 7] = [
     "schur_swap",
     "reorder_schur",
     "reorder_schur_stopping",
+    "reorder_schur_list",
     "block_values",
     "standardised_values",
     "evd_from_real_schur",

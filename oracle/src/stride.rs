@@ -1,16 +1,18 @@
 //! Calls with a stride: a form, factor or vectors in the first n rows of larger buffers. The corner
 //! of a buffer is its n rows and n columns; what stands in rows n and beyond is the lender's.
 
+use crate::lists;
 use crate::record::{Record, Value};
 
 /// The greatest stride.
 pub const MOST: usize = 128;
 
 /// The calls that take a stride beside n, each with the call that it is on the corners.
-pub const CALLS: [(&str, &str); 7] = [
+pub const CALLS: [(&str, &str); 8] = [
     ("schur_swap_ld", "schur_swap"),
     ("reorder_schur_ld", "reorder_schur"),
     ("reorder_schur_stopping_ld", "reorder_schur_stopping"),
+    ("reorder_schur_list_ld", "reorder_schur_list"),
     ("block_values_ld", "block_values"),
     ("standardised_values_ld", "standardised_values"),
     ("evd_from_real_schur_ld", "evd_from_real_schur"),
@@ -127,7 +129,7 @@ pub fn refused(case: &Record, number: usize, base_answer: impl Fn(&Record) -> Re
 /// An answer of the archive to a case with a stride, marked if a bit changed that no call may
 /// change: in rows n and beyond, anywhere if it was turned away. NaNs must keep theirs.
 pub fn checked(case: &Record, answer: Record) -> Record {
-    let rows = if answer.n("answer") == 0 { case.n("n") } else { 0 };
+    let rows = if number(case, &answer) == Some(0) { case.n("n") } else { 0 };
     let beyond = |list: &[f64]| -> Vec<u64> {
         let columns = list.chunks(case.n("ld").clamp(1, MOST));
         columns.flat_map(|column| column.iter().skip(rows).map(|x| x.to_bits())).collect()
@@ -139,17 +141,25 @@ pub fn checked(case: &Record, answer: Record) -> Record {
     if SQUARES.iter().any(changed) { answer.list("beyond", Vec::new()) } else { answer }
 }
 
+/// The number of a call, which for a column is not told, but shows; of a list of moves 0 where a pair
+/// was worked, else the least of its pairs' numbers.
+fn number(case: &Record, answer: &Record) -> Option<usize> {
+    if let Some(part) = answer.lent("part") {
+        return Some(usize::from(part.is_empty()));
+    }
+    match answer.n("answer") {
+        0 if base_of(case.call) == lists::CALL => lists::fours(case, answer).map(|four| four[0]).min(),
+        number => Some(number),
+    }
+}
+
 /// What is counted of a case with a stride: which stride, and what stands beyond the corners of an
 /// accepted one.
 pub fn classes(case: &Record, answer: &Record) -> Vec<&'static str> {
     let (n, ld) = (case.n("n"), case.n("ld"));
-    let number = match answer.lent("part") {
-        Some(part) => usize::from(part.is_empty()),
-        None => answer.n("answer"),
-    };
-    match number {
-        0 => {}
-        17 => return vec![if ld < n { "stride below n" } else { "stride above 128" }],
+    match number(case, answer) {
+        Some(0) => {}
+        Some(17) => return vec![if ld < n { "stride below n" } else { "stride above 128" }],
         _ => return Vec::new(),
     }
     let mut classes = vec![match ld {

@@ -1,8 +1,10 @@
 //! Counts over many cases: how many, how many of each answer, how many split or declined, of
 //! exchanges how many counted so many swaps, which strides and numbers beyond the corners there were,
-//! which tails of reflections, how 2-blocks were read, and where moves stopped.
+//! which tails of reflections, how 2-blocks were read, where moves stopped, and what became of the
+//! pairs of lists of moves.
 
 use crate::generate::tails;
+use crate::lists;
 use crate::note::Notes;
 use crate::record::{Record, Value};
 use crate::stride;
@@ -20,6 +22,9 @@ pub struct Tally {
     /// Cases with a stride by what `stride::classes` tells, of reflections what `tails::classes` does,
     /// of standardised values what `pairs` does, of moves that stop what `met` does.
     pub classes: BTreeMap<&'static str, u64>,
+    /// Pairs of lists of moves: all by their numbers, and what is counted of the accepted ones.
+    pub numbers: BTreeMap<usize, u64>,
+    pub pairs: BTreeMap<&'static str, u64>,
 }
 
 impl Tally {
@@ -33,6 +38,9 @@ impl Tally {
                 *self.exchanges.entry(notes.swaps).or_default() += 1;
             }
         }
+        if stride::base_of(answer.call) == lists::CALL {
+            self.add_pairs(case, answer, notes);
+        }
         let classes = match case.call {
             "make_householder_in_place" => tails::classes(case, answer),
             call if stride::taken_by(call) => stride::classes(case, answer),
@@ -40,6 +48,26 @@ impl Tally {
         };
         let met = pairs(notes).chain(met(answer, notes));
         classes.into_iter().chain(met).for_each(|class| *self.classes.entry(class).or_default() += 1);
+    }
+}
+
+impl Tally {
+    fn add_pairs(&mut self, case: &Record, answer: &Record, notes: &Notes) {
+        for four in lists::fours(case, answer) {
+            *self.numbers.entry(four[0]).or_default() += 1;
+            let (accepted, moved) = (four[0] == 0, four[2] > 0);
+            let counts = [
+                (!accepted, "refused"),
+                (accepted && moved, "moved"),
+                (accepted && !moved, "nothing to move"),
+                (four[3] > 0, "declined"),
+            ];
+            let counted = counts.into_iter().filter(|count| count.0);
+            counted.for_each(|(_, what)| *self.pairs.entry(what).or_default() += 1);
+        }
+        if notes.split_pairs > 0 {
+            *self.pairs.entry("split").or_default() += notes.split_pairs as u64;
+        }
     }
 }
 
@@ -90,7 +118,9 @@ impl fmt::Display for Tally {
         }
         write_counts(f, "answers", &self.answers)?;
         write_counts(f, "swaps", &self.exchanges)?;
-        write_counts(f, "with", &self.classes)
+        write_counts(f, "with", &self.classes)?;
+        write_counts(f, "pairs' answers", &self.numbers)?;
+        write_counts(f, "pairs", &self.pairs)
     }
 }
 

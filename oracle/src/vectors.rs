@@ -43,6 +43,8 @@ const STORED: &[(&str, u64)] = &[
     ("standardised_values_ld", 60),
     ("reorder_schur_stopping", 60),
     ("reorder_schur_stopping_ld", 60),
+    ("reorder_schur_list", 20),
+    ("reorder_schur_list_ld", 16),
 ];
 
 const SEED: u64 = 1;
@@ -121,7 +123,7 @@ fn cases(name: &str, random: u64, extent: &Extent) -> Vec<Record> {
 /// six rows of twelve.
 fn storable(case: &Record) -> bool {
     let most = if stride::taken_by(case.call) { LONGEST_WITH_STRIDE } else { LONGEST };
-    lists(case).all(|list| list.len() <= most)
+    lengths(case).all(|len| len <= most)
 }
 
 fn pairs(name: &'static str, extent: &Extent, case: impl Fn(Record, f64, f64) -> Record) -> Vec<Record> {
@@ -155,6 +157,21 @@ fn lists(record: &Record) -> impl Iterator<Item = &[f64]> {
     record.fields.iter().filter_map(|(_, value)| if let Value::List(list) = value { Some(&list[..]) } else { None })
 }
 
+/// Of the lists of floats, then of those of whole numbers.
+fn lengths(record: &Record) -> impl Iterator<Item = usize> + '_ {
+    let nums = |value: &Value| if let Value::Nums(list) = value { Some(list.len()) } else { None };
+    lists(record).map(<[f64]>::len).chain(record.fields.iter().filter_map(move |(_, value)| nums(value)))
+}
+
+/// The words of all lists, in the order of the fields.
+fn listed(record: &Record) -> impl Iterator<Item = u64> + '_ {
+    record.fields.iter().flat_map(|(_, value)| match value {
+        Value::List(list) => bits(list).collect(),
+        Value::Nums(list) => list.iter().map(|x| *x as u64).collect(),
+        _ => Vec::new(),
+    })
+}
+
 fn bits(list: &[f64]) -> impl Iterator<Item = u64> + '_ {
     list.iter().map(|x| x.to_bits())
 }
@@ -165,13 +182,14 @@ fn padded(list: &[f64], places: usize) -> Vec<u64> {
     words
 }
 
-/// The lengths of the buffers, the numbers and the buffers; then the answer, its counts (zero words
-/// if it is turned away) and those buffers that the call may change, or the part that it hands back.
+/// The lengths of the buffers, the numbers and the buffers, a list of moves before them; then the
+/// answer, its counts (zero words if it is turned away) and those buffers that the call may change, or
+/// the part that it hands back.
 fn on_buffers(case: &Record, answer: &Record) -> Vec<u64> {
-    let mut words: Vec<u64> = lists(case).map(|list| list.len() as u64).collect();
+    let mut words: Vec<u64> = lengths(case).map(|len| len as u64).collect();
     for record in [case, answer] {
         words.extend(numbers(record));
-        words.extend(lists(record).flat_map(bits));
+        words.extend(listed(record));
     }
     words
 }

@@ -1,8 +1,10 @@
 //! Spoils a case so that one line of the list, or several at once, turn it away.
 
 use super::floats::*;
+use super::outside;
 use super::rng::Rng;
 use crate::record::{Record, Value};
+use crate::refuse::MOST_PAIRS;
 use crate::stride::{self, MOST, SQUARES};
 
 /// One to three damages; some may leave the case accepted.
@@ -30,8 +32,42 @@ fn spoil(rng: &mut Rng, case: &mut Record, key: &'static str) {
         "n" => change(rng, case, key, &[0, 1, 33, 64, 65, n + 1, n.saturating_sub(1), usize::MAX, 1 << 32]),
         "from" | "to" | "j0" | "col" => change(rng, case, key, &[n, n + 1, n.saturating_sub(1), usize::MAX, 0]),
         "n1" | "n2" => change(rng, case, key, &[0, 1, 2, 3, usize::MAX]),
+        "moves" => spoil_moves(rng, case, n),
+        "results" => {
+            let needed = 4 * (case.ns("moves").len() / 2);
+            let to = rng.pick(&[0, 1, needed, needed + 1, needed.saturating_sub(1), needed.saturating_sub(4)]);
+            resize_nums(case, key, to);
+        }
         "t" if rng.below(4) > 0 => spoil_form(rng, case, n),
         _ => resize(rng, case, key, n),
+    }
+}
+
+/// A position that is not there, or a list of an odd length or with more than the most pairs, half of
+/// these with results that would be long enough.
+fn spoil_moves(rng: &mut Rng, case: &mut Record, n: usize) {
+    let len = case.ns("moves").len();
+    match rng.below(3) {
+        0 => {
+            let (at, to) = (rng.below(len.max(1)), outside(rng, n));
+            if let Some(Value::Nums(moves)) = case.find_mut("moves") {
+                moves.iter_mut().skip(at).take(1).for_each(|x| *x = to);
+            }
+        }
+        1 => resize_nums(case, "moves", rng.pick(&[1, len + 1, len.saturating_sub(1), 2 * MOST_PAIRS + 1])),
+        _ => {
+            let to = rng.pick(&[2 * MOST_PAIRS, 2 * MOST_PAIRS + 1, 2 * MOST_PAIRS + 2, 4 * MOST_PAIRS]);
+            resize_nums(case, "moves", to);
+            if rng.one_in(2) {
+                resize_nums(case, "results", 2 * to);
+            }
+        }
+    }
+}
+
+fn resize_nums(case: &mut Record, key: &str, to: usize) {
+    if let Some(Value::Nums(list)) = case.find_mut(key) {
+        list.resize(to, 0);
     }
 }
 

@@ -11,6 +11,7 @@ pub mod tails;
 mod text;
 
 use crate::record::{Record, Value};
+use crate::refuse::MOST_PAIRS;
 use crate::stride;
 use forms::{begins_pair, buffer, factor, form, lasting, starts, to_standardise, to_stop};
 use rng::Rng;
@@ -73,7 +74,8 @@ fn draw(rng: &mut Rng, call: &'static str, index: u64, sizes: Sizes) -> Record {
         Some(case) => case,
         None => return small::case(call, rng, index),
     };
-    if rng.one_in(12) { damage::damage(rng, case) } else { case }
+    let odds = if case.find("moves").is_some() { 4 } else { 12 };
+    if rng.one_in(odds) { damage::damage(rng, case) } else { case }
 }
 
 /// A case of a call with a form or vectors that is not spoilt; of another call, none.
@@ -82,6 +84,7 @@ fn on_form(rng: &mut Rng, call: &'static str, sizes: Sizes) -> Option<Record> {
         "schur_swap" => exchange(rng, sizes),
         "reorder_schur" => reorder(rng, sizes),
         "reorder_schur_stopping" => reorder_stopping(rng, sizes),
+        "reorder_schur_list" => reorder_list(rng, sizes),
         "block_values" => values(rng, call, sizes, form),
         "standardised_values" => values(rng, call, sizes, to_standardise),
         "evd_from_real_schur" => {
@@ -129,13 +132,15 @@ pub fn sheets(rng: &mut Rng, sizes: Sizes) -> Record {
     Record::new("reorder_schur").num("n", n).list("t", stride::form(&first)).list("u", factor(rng, n))
 }
 
-/// A move, a move that stops or an exchange on the form of a case, with its stride if it has one. One
-/// in eight is spoilt, but not in its form, rows or stride.
+/// A move, a move that stops, an exchange or, half as often since it makes several, a list of moves on
+/// the form of a case, with its stride if it has one. One in eight is spoilt, but not in its form, rows
+/// or stride.
 pub fn further(rng: &mut Rng, last: &Record) -> Record {
     let (n, t) = (last.n("n"), stride::form(last));
-    let base = match rng.below(3) {
-        0 => reorder_of(rng, n, t),
-        1 => reorder_stopping_of(rng, n, t),
+    let base = match rng.below(7) {
+        0 | 1 => reorder_of(rng, n, t),
+        2 | 3 => reorder_stopping_of(rng, n, t),
+        4 => reorder_list_of(rng, n, t),
         _ => exchange_of(rng, n, t),
     };
     let case = if stride::taken_by(last.call) {
@@ -174,6 +179,48 @@ fn reorder_stopping_of(rng: &mut Rng, n: usize, t: Vec<f64>) -> Record {
         _ => (rng.below(n), rng.below(n)),
     };
     Record::new("reorder_schur_stopping").num("n", n).list("t", t).list("u", u).num("from", from).num("to", to)
+}
+
+/// Half of the forms have 2-blocks that mostly last, so that later pairs still meet some.
+fn reorder_list(rng: &mut Rng, sizes: Sizes) -> Record {
+    let n = rows(rng, sizes);
+    let t = if rng.one_in(2) { form(rng, n) } else { lasting(rng, n) };
+    reorder_list_of(rng, n, t)
+}
+
+/// Mostly a few pairs, now and then none or the most; in one list of three every fourth position is
+/// out of range. The results hold any numbers, and half of them are longer than they need be.
+fn reorder_list_of(rng: &mut Rng, n: usize, t: Vec<f64>) -> Record {
+    let u = factor(rng, n);
+    let pairs = match rng.below(24) {
+        0 => 0,
+        1 => MOST_PAIRS,
+        2 => rng.below(MOST_PAIRS + 1),
+        _ => 1 + rng.below(6),
+    };
+    let some_out = rng.one_in(3);
+    let moves = (0..2 * pairs).map(|_| if some_out && rng.one_in(4) { outside(rng, n) } else { rng.below(n) });
+    let moves = moves.collect();
+    let longer = if rng.one_in(2) { 1 + rng.below(9) } else { 0 };
+    let results = (0..4 * pairs + longer).map(|_| place(rng)).collect();
+    Record::new("reorder_schur_list")
+        .num("n", n)
+        .nums("moves", moves)
+        .list("t", t)
+        .list("u", u)
+        .nums("results", results)
+}
+
+/// A position that is not in a form of n rows.
+pub fn outside(rng: &mut Rng, n: usize) -> usize {
+    let any = rng.bits() as usize;
+    rng.pick(&[n, n, n + 1, 64, 1 << 32, 1 << 63, usize::MAX, any]).max(n)
+}
+
+/// What a place of lent results may hold.
+fn place(rng: &mut Rng) -> usize {
+    let any = rng.bits() as usize;
+    rng.pick(&[any, any, any % 65, 0, 1, 7, usize::MAX])
 }
 
 fn exchange(rng: &mut Rng, sizes: Sizes) -> Record {
@@ -218,6 +265,7 @@ mod tests {
     use super::*;
     use crate::calls;
     use crate::record::CALLS;
+    use crate::refuse;
     use crate::tally::Tally;
 
     #[test]
@@ -250,6 +298,44 @@ mod tests {
         assert_eq!(lines("reorder_schur_ld"), [0, 2, 3, 4, 5, 6, 7, 17]);
         assert_eq!(lines("reorder_schur_stopping_ld"), [0, 2, 3, 4, 5, 6, 7, 17]);
         assert_eq!(lines("evd_from_real_schur_ld"), [0, 2, 3, 4, 5, 6, 17]);
+    }
+
+    /// Lists of every number of pairs, with every line told of the list and of its pairs, and two lines at
+    /// once. The results come as long as they must be, and longer; lists of one pair and of 64 are worked.
+    #[test]
+    fn every_list_occurs() {
+        use std::collections::BTreeSet;
+        for (call, further) in [("reorder_schur_list", &[][..]), ("reorder_schur_list_ld", &[17])] {
+            let (mut tally, mut lengths) = (Tally::default(), BTreeSet::new());
+            let (mut both, mut exact, mut longer) = ([0; 3], 0, 0);
+            for index in 0..8000 {
+                let case = case(call, 5, index, USUAL);
+                let (answer, notes) = calls::answer(&case);
+                tally.add(&case, &answer, &notes);
+                let (n, moves, results) = (case.n("n"), case.ns("moves"), case.ns("results"));
+                let lent = |key| Some(case.l(key));
+                let whole = refuse::strided(n, stride::of(&case), lent("t"), lent("u"), None);
+                let deep = whole.is_ok() && refuse::form(n, &stride::form(&case)) == Err(5);
+                let line12 = refuse::list(moves, results).is_err();
+                both[0] += usize::from(line12 && (n == 0 || n > 64));
+                both[1] += usize::from(line12 && deep);
+                both[2] += usize::from(!line12 && deep && moves.iter().any(|x| *x >= n));
+                if !line12 {
+                    lengths.insert(moves.len() / 2);
+                    exact += usize::from(results.len() == 2 * moves.len());
+                    longer += usize::from(results.len() > 2 * moves.len());
+                }
+            }
+            assert_eq!(tally.answers.into_keys().collect::<Vec<_>>(), [0, 12]);
+            let numbers: Vec<usize> = [0, 2, 3, 4, 5, 6, 7].iter().chain(further).copied().collect();
+            assert_eq!(tally.numbers.into_keys().collect::<Vec<_>>(), numbers);
+            assert_eq!(lengths.into_iter().collect::<Vec<_>>(), (0..=64).collect::<Vec<_>>());
+            assert!(both.iter().all(|count| *count > 10), "{both:?}");
+            assert!(exact > 1000 && longer > 1000);
+            for what in ["refused", "moved", "nothing to move", "declined", "split"] {
+                assert!(tally.pairs[what] > 100, "{what}");
+            }
+        }
     }
 
     /// Every line is told of standardised values, and every way to read a 2-block occurs.
