@@ -1,6 +1,6 @@
 -- What is known of form and factor before a pair tells the line of its move, and no move changes it. Assumes nothing.
 use mathlib.Core.Path.{◌≡◌, refl, sym, ap, ◌∙◌}
-use Prim.Native.Nat.{ℕ, ◌*◌}
+use Prim.Native.Nat.{ℕ}
 use mathlib.Core.Bool.{cond}
 use mathlib.Core.List.{List}
 use lib.Dec.{eqb}
@@ -15,7 +15,6 @@ use Rattle.refusal.specs.Line.{line, answer}
 use Rattle.refusal.specs.declared.Refusal.{Refusal}
 use Rattle.refusal.proofs.Told.{told}
 use Rattle.form.specs.Lines.{further_line, positions_line}
-use Rattle.form.specs.Run as Run
 use Rattle.form.specs.declared.shape.Shape.{Shape}
 use Rattle.form.specs.Shaped.{IsOf, Beside}
 use Rattle.form.proofs.Runs.{still}

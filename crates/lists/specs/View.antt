@@ -1,5 +1,5 @@
 -- The crate's answers as the records of model. Definitions only. Assumes nothing.
-use Rattle.std.specs.Prelude.{ℕ, List, Float, Result, Ok, Err, ⊤}
+use Rattle.std.specs.Prelude.{ℕ, List, Float, Result, Ok, Err}
 use Rattle.model.specs.Move as Move
 use Rattle.model.specs.Lists as Lists
 use Rattle.refusal.specs.Line.{line, answer}

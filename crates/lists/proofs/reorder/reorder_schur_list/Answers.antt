@@ -3,7 +3,6 @@ use mathlib.Core.Path.{refl, ◌∙◌}
 use native.Mathlib.Nat.{div-add-mod'}
 use native.Mathlib.Omega.{arith}
 use lib.ListN.{length}
-use Rattle.std.proofs.Common.{rules}
 use Rattle.lists.proofs.Known.{known_first, known_on}
 use Rattle.lists.proofs.Turns.{odd, too_many, too_short, turned_away, accepted, two_more, none_more, one_pair}
 use Rattle.lists.proofs.reorder.reorder_schur_list.Goals.{then-moves-ne0-via-then-moves-ne0, then-moves-ne0-via-else-moves-ne0+then-pairs-gt64, then-moves-ne0-via-else-moves-ne0+else-pairs-gt64+then-results-pairs}
