@@ -14,6 +14,7 @@ ghost use Rattle.linalg.specs.View.{rotation};
 use arith::real::recip;
 use linalg::householder::make_householder;
 use linalg::jacobi::{JacobiRotation, apply_on_the_right};
+use std::simd::Simd;
 
 // An operation that mixes N lines, which are rows or columns of a form.
 pub trait Kernel<const N: usize>: Copy {
@@ -24,6 +25,10 @@ pub trait Kernel<const N: usize>: Copy {
     ghost operation: { Self → List ℕ → Operation };
 
     fn apply(self, x: [f64; N]) -> [f64; N]
+        ensures { result ≡ gives self x.entry };
+
+    // The same of numbers that stand side by side in memory, as those of neighbouring rows do.
+    fn apply_beside(self, x: [f64; N]) -> [f64; N]
         ensures { result ≡ gives self x.entry };
 
     // Applied all along the lines, what it makes of N numbers is that operation.
@@ -42,6 +47,15 @@ impl Kernel<2> for JacobiRotation {
     {
         let w = apply_on_the_right(self, x[0], x[1]);
         [w.x, w.y]
+    }
+
+    // Both at once: c*y - s*x is c*y + (-s)*x in every bit.
+    fn apply_beside(self, x: [f64; 2]) -> [f64; 2]
+        ensures { result ≡ rotated (rotation self) x }
+    {
+        let c = Simd::splat(self.c);
+        let s = Simd::from_array([self.s, -self.s]);
+        (c * Simd::from_array([x[0], x[1]]) + s * Simd::from_array([x[1], x[0]])).to_array()
     }
 }
 
@@ -132,6 +146,12 @@ impl Kernel<3> for Reflectors<2, 1> {
     {
         self.reflect(x)
     }
+
+    fn apply_beside(self, x: [f64; 3]) -> [f64; 3]
+        ensures { result ≡ reflected3 (reflection3 self) x }
+    {
+        self.apply(x)
+    }
 }
 
 impl Kernel<4> for Reflectors<3, 2> {
@@ -145,5 +165,11 @@ impl Kernel<4> for Reflectors<3, 2> {
         ensures { result ≡ reflected4 (reflection4 self) x }
     {
         self.reflect(x)
+    }
+
+    fn apply_beside(self, x: [f64; 4]) -> [f64; 4]
+        ensures { result ≡ reflected4 (reflection4 self) x }
+    {
+        self.apply(x)
     }
 }

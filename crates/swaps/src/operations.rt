@@ -9,8 +9,8 @@ ghost use Rattle.swaps.specs.Lines.{Inside, change_at};
 use crate::kernels::Kernel;
 use form::shape::Shape;
 
-// The numbers at N places changed. Arrays are filled by index, here and below, for the reason that stands at `Window`.
-fn change<const N: usize, K: Kernel<N>>(t: &mut [f64], k: K, places: [usize; N])
+// The numbers at N places changed, which stand side by side or not. Arrays are filled by index, here and below, for the reason that stands at `Window`.
+fn change<const N: usize, K: Kernel<N>, const BESIDE: bool>(t: &mut [f64], k: K, places: [usize; N])
     requires { Inside N places (length t.old) }
     ensures { t.new ≡ change_at N (K.gives k) (λ (m : ℕ). get_or places.entry m 0) t.old }
 {
@@ -18,7 +18,11 @@ fn change<const N: usize, K: Kernel<N>>(t: &mut [f64], k: K, places: [usize; N])
     for (m, place) in places.iter().enumerate() {
         x[m] = t[*place];
     }
-    let y = k.apply(x);
+    let y = if BESIDE {
+        k.apply_beside(x)
+    } else {
+        k.apply(x)
+    };
     for (m, place) in places.iter().enumerate() {
         t[*place] = y[m];
     }
@@ -37,7 +41,7 @@ fn on_rows<const N: usize, K: Kernel<N>>(s: Shape, t: &mut [f64], k: K, rows: [u
         for (m, row) in rows.iter().enumerate() {
             places[m] = s.place(*row, c);
         }
-        change(t, k, places);
+        change::<N, K, true>(t, k, places);
     }
 }
 
@@ -58,7 +62,7 @@ fn on_columns<const N: usize, K: Kernel<N>>(
         for (m, column) in columns.iter().enumerate() {
             places[m] = s.place(i, *column);
         }
-        change(t, k, places);
+        change::<N, K, false>(t, k, places);
     }
 }
 
