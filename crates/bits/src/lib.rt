@@ -1,5 +1,5 @@
-// Inside (`evd`, `sheet_words`, `sheet_text`, `replay_text`, `replay_calls`, `replay_forms`): floats by their bits, every
-// NaN as one, hexadecimal digits, and slices filled from others.
+// Inside (`evd`, `sheet_words`, `sheet_text`, `replay_text`, `replay_calls`, `replay_forms`, `replay_lists`): floats by
+// their bits, every NaN as one, hexadecimal digits, and slices filled from others.
 #![tactic(auto)]
 
 pub mod fill;

@@ -1,9 +1,10 @@
 -- What a line of each call shows. Definitions only. Assumes nothing.
 use Rattle.std.specs.Prelude.{ℕ, List}
 use Rattle.replay_text.specs.declared.name.Call.{Call}
-use Rattle.replay_text.specs.declared.name.Call.TheVariants.{Abs, Abs1, Abs2, Recip, MulPow2, Fmax, Fmin, Sqrt, Hypot, NormL2, Rotg, Adjoint, Apply, MakeHouseholderInPlace, LahqrSchur22, Lasy2, SchurSwap, ReorderSchur, BlockValues, EvdFromRealSchur, Column, SchurSwapLd, ReorderSchurLd, BlockValuesLd, EvdFromRealSchurLd, ColumnLd, StandardisedValues, StandardisedValuesLd, ReorderSchurStopping, ReorderSchurStoppingLd}
+use Rattle.replay_text.specs.declared.name.Call.TheVariants.{Abs, Abs1, Abs2, Recip, MulPow2, Fmax, Fmin, Sqrt, Hypot, NormL2, Rotg, Adjoint, Apply, MakeHouseholderInPlace, LahqrSchur22, Lasy2, SchurSwap, ReorderSchur, BlockValues, EvdFromRealSchur, Column, SchurSwapLd, ReorderSchurLd, BlockValuesLd, EvdFromRealSchurLd, ColumnLd, StandardisedValues, StandardisedValuesLd, ReorderSchurStopping, ReorderSchurStoppingLd, ReorderSchurList, ReorderSchurListLd}
 use Rattle.replay_text.specs.declared.outcome.Outcome.{Outcome}
 use Rattle.replay_forms.specs.Lines as Forms
+use Rattle.replay_lists.specs.Lines as Lists
 use Rattle.replay_calls.specs.Lines as Lines
 
 abbrev pub shown : Call → List ℕ → Outcome
@@ -37,3 +38,5 @@ shown StandardisedValues = Forms.standardised_values 0
 shown StandardisedValuesLd = Forms.standardised_values 1
 shown ReorderSchurStopping = Forms.reorder_schur_stopping 0
 shown ReorderSchurStoppingLd = Forms.reorder_schur_stopping 1
+shown ReorderSchurList = Lists.reorder_schur_list 0
+shown ReorderSchurListLd = Lists.reorder_schur_list 1

@@ -17,9 +17,9 @@ use replay_text::count::Tally;
 use std::io;
 use std::io::Read;
 
-// How many words a line may have: those of two forms and two factors of 64 columns, 128 places apart. Nothing here
-// allocates.
-const WORDS: usize = 33000;
+// How many words a line may have: those of two forms and two factors of 64 columns, 128 places apart, and of a list of
+// 64 pairs with its results, twice. Nothing here allocates.
+const WORDS: usize = 34000;
 
 // How many bytes are enough for a line of WORDS words, of 17 bytes each, and its name.
 const LINE: usize = 600000;

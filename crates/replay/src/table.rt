@@ -6,6 +6,7 @@ ghost use Rattle.replay.specs.Table as Table;
 use replay_calls::{blocks, calls};
 use replay_forms::head::Stride;
 use replay_forms::{moves, vectors};
+use replay_lists::list;
 use replay_text::name::Call;
 use replay_text::outcome::Outcome;
 
@@ -44,5 +45,7 @@ pub fn run(call: Call, w: &[u64]) -> Outcome
         Call::StandardisedValuesLd => vectors::standardised_values(Stride::Given, w),
         Call::ReorderSchurStopping => moves::reorder_schur_stopping(Stride::OfRows, w),
         Call::ReorderSchurStoppingLd => moves::reorder_schur_stopping(Stride::Given, w),
+        Call::ReorderSchurList => list::reorder_schur_list(Stride::OfRows, w),
+        Call::ReorderSchurListLd => list::reorder_schur_list(Stride::Given, w),
     }
 }

@@ -2,7 +2,7 @@
 // with the lengths of the buffers, so that buffers of any length that a room holds can stand in a line.
 #![tactic(auto)]
 
-mod buffers;
+pub mod buffers;
 pub mod head;
 pub mod moves;
 pub mod vectors;
