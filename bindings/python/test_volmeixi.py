@@ -250,7 +250,7 @@ class Worked(Case):
         self.assertEqual(vx.reorder_schur_list(t, None, []), [])
 
     def test_lists_refused(self):
-        """12, then 2, 3 and 4, which are raised; then each pair has what it was refused for."""
+        """12, which is raised, before all others; then each pair has what it was refused for."""
 
         def by_12(t, u):
             return vx.reorder_schur_list(t, u, [(0, 1)] * 65)
@@ -265,8 +265,12 @@ class Worked(Case):
             *((3, t[1:], u), (4, t, u[1:])),
         ):
             self.refused(12, by_12, form, factor)
-            self.refused(number, moves((0, 1), (0, 7)), form, factor)
-            self.refused(number, moves(), form, factor)
+            before = bytes(form), bytes(factor)
+            results = moves((0, 1), (0, 7))(form, factor)
+            self.assertEqual(told(results), [number] * 2)
+            self.assertNotEqual(str(results[0]), "")
+            self.assertEqual((bytes(form), bytes(factor)), before)
+            self.assertEqual(moves()(form, factor), [])
         for number, form, pairs in (
             *((5, deep, ((0, 1), (0, 7))), (6, touching, ((0, 1), (0, 7)))),
             (7, t, ((3, 0), (0, 3), (-1, 0), (0, 2**64), (2**70, -5))),
@@ -615,7 +619,9 @@ class Strides(Case):
         t, u = floats([0] * form), floats([9] * further)
         for move in MOVES:
             self.refused(number, lambda t, u: move(t, u, 0, 1, stride=stride), t, u)
-        self.refused(number, lambda t, u: vx.reorder_schur_list(t, u, LIST, stride=stride), t, u)
+        before = bytes(t), bytes(u)
+        self.assertEqual(told(vx.reorder_schur_list(t, u, LIST, stride=stride)), [number] * len(LIST))
+        self.assertEqual((bytes(t), bytes(u)), before)
         self.refused(12, lambda t, u: vx.reorder_schur_list(t, u, LIST * 22, stride=stride), t, u)
         self.refused(number, lambda t, u: vx.schur_swap(t, u, 0, 1, 1, stride=stride), t, u)
         self.refused(number, lambda t, v: vx.evd_from_real_schur(t, v, stride=stride), t, u)

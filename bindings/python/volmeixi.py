@@ -534,8 +534,8 @@ def reorder_schur_list(t, u, moves, *, stride=None):
     The form is checked once and not for each pair. Form and factor are what reorder_schur leaves, called
     for each pair in turn, and so are the results. Gives a list with one for each pair: Moved, or where
     this pair was turned away a Refusal. That is not raised: the pair changes nothing, and the next goes
-    on. A form that line 5 or 6 refuses turns all of them away. Raised are Refusal 12 of more than 64
-    pairs, before all others, and 2, 17, 3 and 4 as in reorder_schur.
+    on. What is wrong with form, factor or stride turns all of them away, so that each has that Refusal.
+    Raised is Refusal 12 alone, of more than 64 pairs.
 
     >>> t = array("d", [1, 0, 0, 2])
     >>> reorder_schur_list(t, None, [(0, 1), (2, 0)])
@@ -548,7 +548,10 @@ def reorder_schur_list(t, u, moves, *, stride=None):
         raise Refusal(12)
     places = [position for pair in pairs for position in pair]
     given, results = (_SIZE * len(places))(*places), (_SIZE * (2 * len(places)))()
-    _changed("reorder_schur_list", t, u, stride, buffers=(given, len(given), results, len(results)))
+    try:
+        _changed("reorder_schur_list", t, u, stride, buffers=(given, len(given), results, len(results)))
+    except Refusal as refusal:  # seen before the call, which would write the same number for each pair
+        return [refusal.with_traceback(None)] * len(pairs)
     fours = (results[k : k + 4] for k in range(0, len(results), 4))
     return [Refusal(number) if number else Moved(*moved) for number, *moved in fours]
 
