@@ -10,6 +10,7 @@ ghost use Rattle.swaps.specs.Inside.{Fits};
 
 use arrayvec::ArrayVec;
 use form::shape::Shape;
+use swaps::ahead::Ahead;
 use swaps::neighbours::Neighbours;
 use swaps::standardise::standardise;
 use swaps::swap_11::schur_swap_11;
@@ -24,7 +25,7 @@ fn swap_of(s: Shape, t: &mut [f64], u: &mut [f64], b: Neighbours) -> Counts
 {
     let declined = match (b.n1, b.n2) {
         (1, 1) => {
-            schur_swap_11(s, t, u, b.row);
+            schur_swap_11(s, t, u, b.row, &mut Ahead::none());
             false
         }
         (1, _) => {
@@ -96,14 +97,20 @@ pub fn exchange(s: Shape, t: &mut [f64], u: &mut [f64], b: Neighbours) -> Counts
     counts
 }
 
-// The same exchange: two single rows straight by their swap, all else as above. Without this way moves of
-// single rows take 1.04 to 1.23 times as long (docs/BENCHMARKS.md, "Before and after").
-pub fn exchange_straight(s: Shape, t: &mut [f64], u: &mut [f64], b: Neighbours) -> Counts
+// The same exchange: two single rows straight by their swap, which looks ahead, all else as above. Without this way
+// moves of single rows take 1.04 to 1.23 times as long (docs/BENCHMARKS.md, "Before and after").
+pub fn exchange_straight(
+    s: Shape,
+    t: &mut [f64],
+    u: &mut [f64],
+    b: Neighbours,
+    ahead: &mut Ahead,
+) -> Counts
     requires { Holds s t.old × Beside s u.old × Fits s b }
     ensures { Step s.ld s.n u.old t.new u.new result.swaps result.declined (Exchange.exchange binary64 s.ld s.n b.row b.n1 b.n2 t.old) × (result.swaps ≤ 4) × (result.declined ≤ 4) }
 {
     if b.n1 + b.n2 == 2 {
-        schur_swap_11(s, t, u, b.row);
+        schur_swap_11(s, t, u, b.row, ahead);
         return Counts::of_one(false);
     }
     exchange(s, t, u, b)

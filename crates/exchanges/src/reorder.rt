@@ -9,6 +9,7 @@ ghost use Rattle.exchanges.specs.View.{moved};
 
 use crate::exchange::exchange_straight;
 use form::shape::Shape;
+use swaps::ahead::Ahead;
 use swaps::neighbours::Neighbours;
 use walks::counts::Counts;
 use walks::moving::{Kind, Moving};
@@ -22,8 +23,14 @@ impl Kind for GoesOn {
 
     ghost most = { 4 };
 
-    fn exchange(s: Shape, t: &mut [f64], u: &mut [f64], b: Neighbours) -> Result<Counts, Counts> {
-        Ok(exchange_straight(s, t, u, b))
+    fn exchange(
+        s: Shape,
+        t: &mut [f64],
+        u: &mut [f64],
+        b: Neighbours,
+        ahead: &mut Ahead,
+    ) -> Result<Counts, Counts> {
+        Ok(exchange_straight(s, t, u, b, ahead))
     }
 
     ghost few = { omega arith };

@@ -8,6 +8,7 @@ ghost use Rattle.stopping.specs.View.{stopped};
 use form::lines::accepted_move;
 use form::shape::Shape;
 use refusal::Refusal;
+use swaps::ahead::Ahead;
 use swaps::neighbours::Neighbours;
 use tries::exchange::try_exchange;
 use walks::counts::Counts;
@@ -22,8 +23,14 @@ impl Kind for Stops {
 
     ghost most = { 1 };
 
-    fn exchange(s: Shape, t: &mut [f64], u: &mut [f64], b: Neighbours) -> Result<Counts, Counts> {
-        let declined = try_exchange(s, t, u, b);
+    fn exchange(
+        s: Shape,
+        t: &mut [f64],
+        u: &mut [f64],
+        b: Neighbours,
+        ahead: &mut Ahead,
+    ) -> Result<Counts, Counts> {
+        let declined = try_exchange(s, t, u, b, ahead);
         let counts = Counts::of_one(declined);
         if declined { Err(counts) } else { Ok(counts) }
     }

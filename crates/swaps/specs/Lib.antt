@@ -7,3 +7,4 @@ pub mod Kernels
 pub mod Along
 pub mod Windows
 pub mod Inside
+pub mod Ahead

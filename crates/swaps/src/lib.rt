@@ -5,6 +5,7 @@
 // read would go through it.
 #![tactic(auto)]
 
+pub mod ahead;
 pub mod kernels;
 pub mod neighbours;
 pub mod operations;

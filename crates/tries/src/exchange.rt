@@ -10,6 +10,7 @@ ghost use Rattle.swaps.specs.Inside.{Fits};
 use crate::standard::standardise_also;
 use crate::swap::try_3;
 use form::shape::Shape;
+use swaps::ahead::Ahead;
 use swaps::neighbours::Neighbours;
 use swaps::swap_11::schur_swap_11;
 use swaps::swap_12::Single;
@@ -36,12 +37,18 @@ fn try_swap(s: Shape, t: &mut [f64], u: &mut [f64], b: Neighbours) -> bool
 // and no block. `exchange_whole` of crate `schur` makes another swap, goes on after a decline, and standardises
 // without dlanv2's exchange: one function for both would be handed all three.
 #[tactic(auto, unfolding(model::specs::Stopping::test_fails))]
-pub fn try_exchange(s: Shape, t: &mut [f64], u: &mut [f64], b: Neighbours) -> bool
+pub fn try_exchange(
+    s: Shape,
+    t: &mut [f64],
+    u: &mut [f64],
+    b: Neighbours,
+    ahead: &mut Ahead,
+) -> bool
     requires { Holds s t.old × Beside s u.old × Fits s b }
     ensures { Done s.ld s.n u.old t.new u.new (Stopping.try_exchange binary64 s.ld s.n b.row b.n1 b.n2 t.old) × (result ≡ Stopping.test_fails binary64 s.ld t.old b.row b.n1 b.n2) × (Swaps.swaps_of (Stopping.try_exchange binary64 s.ld s.n b.row b.n1 b.n2 t.old) ≡ 1) × (Swaps.declined_of (Stopping.try_exchange binary64 s.ld s.n b.row b.n1 b.n2 t.old) ≡ cond result 1 0) }
 {
     if b.n1 + b.n2 == 2 {
-        schur_swap_11(s, t, u, b.row);
+        schur_swap_11(s, t, u, b.row, ahead);
         return false;
     }
     if try_swap(s, t, u, b) {

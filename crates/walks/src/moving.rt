@@ -13,6 +13,7 @@ ghost use Rattle.walks.specs.Stands.{Stands, Takes, Few, More, rows, number};
 
 use crate::counts::Counts;
 use form::shape::Shape;
+use swaps::ahead::Ahead;
 use swaps::neighbours::Neighbours;
 
 // How a move makes its exchanges, and where it stops.
@@ -23,7 +24,13 @@ pub trait Kind {
     ghost most: { ℕ };
 
     // The exchange of neighbouring blocks: Err where it has declined and the move stops for that.
-    fn exchange(s: Shape, t: &mut [f64], u: &mut [f64], b: Neighbours) -> Result<Counts, Counts>
+    fn exchange(
+        s: Shape,
+        t: &mut [f64],
+        u: &mut [f64],
+        b: Neighbours,
+        ahead: &mut Ahead,
+    ) -> Result<Counts, Counts>
         requires { Holds s t.old × Beside s u.old × Fits s b }
         ensures { Made (kind s.ld s.n) most s b t.old u.old t.new u.new result };
 
@@ -107,12 +114,13 @@ fn trying<K: Kind>(
     n1: usize,
     n2: usize,
     m: Moving,
+    ahead: &mut Ahead,
 ) -> Result<Moving, Moving>
     requires { Holds s t.old × Beside s u.old × Rows s.n j n1 n2 × Few 2000 m }
     ensures stands { Takes s t.old u.old m t.new u.new result (Stopping.trying (K.kind s.ld s.n) j n1 n2) }
     ensures counts { IfOk result (λ r. (r.here ≡ m.here) × More K.most m r) }
 {
-    match K::exchange(s, t, u, Neighbours { row: j, n1, n2 }) {
+    match K::exchange(s, t, u, Neighbours { row: j, n1, n2 }, ahead) {
         Ok(c) => Ok(Moving {
             counts: m.counts + c,
             ..m
@@ -125,14 +133,20 @@ fn trying<K: Kind>(
 }
 
 // One row or a 2-block, past the block below.
-fn whole_down<K: Kind>(s: Shape, t: &mut [f64], u: &mut [f64], m: Moving) -> Result<Moving, Moving>
+fn whole_down<K: Kind>(
+    s: Shape,
+    t: &mut [f64],
+    u: &mut [f64],
+    m: Moving,
+    ahead: &mut Ahead,
+) -> Result<Moving, Moving>
     requires { Holds s t.old × Beside s u.old × Few 1000 m × (rows m.block ≡ number m.block) × (m.here + rows m.block < s.n) }
     ensures stands { Takes s t.old u.old m t.new u.new result (Stopping.whole_down (K.kind s.ld s.n) binary64 s.ld s.n) }
     ensures counts { IfOk result (λ r. (m.here < r.here) × (r.here + rows m.block ≤ s.n) × More K.most m r) }
 {
     let rows = m.block.rows();
     let next = s.size_at(t, m.here + rows);
-    let e = trying::<K>(s, t, u, m.here, rows, next, m)?;
+    let e = trying::<K>(s, t, u, m.here, rows, next, m, ahead)?;
     Ok(e.landed_whole(s, t, m.here + next))
 }
 
@@ -143,6 +157,7 @@ fn past_two_down<K: Kind>(
     t: &mut [f64],
     u: &mut [f64],
     m: Moving,
+    ahead: &mut Ahead,
 ) -> Result<Moving, Moving>
     requires { Holds s t.old × Beside s u.old × Few 1100 m × (m.here + 4 ≤ s.n) }
     ensures stands { Takes s t.old u.old m t.new u.new result (Stopping.past_two_down (K.kind s.ld s.n) binary64 s.ld s.n) }
@@ -150,28 +165,34 @@ fn past_two_down<K: Kind>(
 {
     let here = m.here;
     if s.zero_below(t, here + 1) {
-        let a = trying::<K>(s, t, u, here, 1, 1, m)?;
-        let b = trying::<K>(s, t, u, here + 1, 1, 1, a)?;
+        let a = trying::<K>(s, t, u, here, 1, 1, m, ahead)?;
+        let b = trying::<K>(s, t, u, here + 1, 1, 1, a, ahead)?;
         return Ok(b.arrived(here + 2));
     }
-    let a = trying::<K>(s, t, u, here, 1, 2, m)?;
+    let a = trying::<K>(s, t, u, here, 1, 2, m, ahead)?;
     Ok(a.arrived(here + 2))
 }
 
 // Two rows, the lower first.
-fn apart_down<K: Kind>(s: Shape, t: &mut [f64], u: &mut [f64], m: Moving) -> Result<Moving, Moving>
+fn apart_down<K: Kind>(
+    s: Shape,
+    t: &mut [f64],
+    u: &mut [f64],
+    m: Moving,
+    ahead: &mut Ahead,
+) -> Result<Moving, Moving>
     requires { Holds s t.old × Beside s u.old × Few 1000 m × (m.here + 3 ≤ s.n) }
     ensures stands { Takes s t.old u.old m t.new u.new result (Stopping.apart_down (K.kind s.ld s.n) binary64 s.ld s.n) }
     ensures counts { IfOk result (λ r. (m.here < r.here) × (r.here + 2 ≤ s.n) × More (3 * K.most) m r) }
 {
     let here = m.here;
     let next = s.size_at(t, here + 2);
-    let below = trying::<K>(s, t, u, here + 1, 1, next, m)?;
+    let below = trying::<K>(s, t, u, here + 1, 1, next, m, ahead)?;
     if next == 1 {
-        let a = trying::<K>(s, t, u, here, 1, 1, below)?;
+        let a = trying::<K>(s, t, u, here, 1, 1, below, ahead)?;
         return Ok(a.arrived(here + 1));
     }
-    past_two_down::<K>(s, t, u, below)
+    past_two_down::<K>(s, t, u, below, ahead)
 }
 
 // One step down.
@@ -181,19 +202,26 @@ pub(crate) fn step_down<K: Kind>(
     t: &mut [f64],
     u: &mut [f64],
     m: Moving,
+    ahead: &mut Ahead,
 ) -> Result<Moving, Moving>
     requires { Holds s t.old × Beside s u.old × Few 1000 m × (m.here + rows m.block < s.n) }
     ensures stands { Takes s t.old u.old m t.new u.new result (Stopping.step_down (K.kind s.ld s.n) binary64 s.ld s.n) }
     ensures counts { IfOk result (λ r. (m.here < r.here) × (r.here + rows m.block ≤ s.n) × More (3 * K.most) m r) }
 {
     match m.block {
-        Block::Parted => apart_down::<K>(s, t, u, m),
-        Block::One | Block::Two => whole_down::<K>(s, t, u, m),
+        Block::Parted => apart_down::<K>(s, t, u, m, ahead),
+        Block::One | Block::Two => whole_down::<K>(s, t, u, m, ahead),
     }
 }
 
 // One row or a 2-block, past the block above.
-fn whole_up<K: Kind>(s: Shape, t: &mut [f64], u: &mut [f64], m: Moving) -> Result<Moving, Moving>
+fn whole_up<K: Kind>(
+    s: Shape,
+    t: &mut [f64],
+    u: &mut [f64],
+    m: Moving,
+    ahead: &mut Ahead,
+) -> Result<Moving, Moving>
     requires { Holds s t.old × Beside s u.old × Few 1000 m × (rows m.block ≡ number m.block) × (0 < m.here) × (m.here + rows m.block ≤ s.n) }
     ensures stands { Takes s t.old u.old m t.new u.new result (Stopping.whole_up (K.kind s.ld s.n) binary64 s.ld s.n) }
     ensures counts { IfOk result (λ r. (r.here < m.here) × More K.most m r) }
@@ -201,41 +229,53 @@ fn whole_up<K: Kind>(s: Shape, t: &mut [f64], u: &mut [f64], m: Moving) -> Resul
     let rows = m.block.rows();
     let next = s.size_above(t, m.here);
     let to = m.here - next;
-    let e = trying::<K>(s, t, u, to, next, rows, m)?;
+    let e = trying::<K>(s, t, u, to, next, rows, m, ahead)?;
     Ok(e.landed_whole(s, t, to))
 }
 
 // The lower row past a 2-block that the upper row has passed, or past each of its rows where that exchange
 // has split it.
-fn past_two_up<K: Kind>(s: Shape, t: &mut [f64], u: &mut [f64], m: Moving) -> Result<Moving, Moving>
+fn past_two_up<K: Kind>(
+    s: Shape,
+    t: &mut [f64],
+    u: &mut [f64],
+    m: Moving,
+    ahead: &mut Ahead,
+) -> Result<Moving, Moving>
     requires { Holds s t.old × Beside s u.old × Few 1100 m × (2 ≤ m.here) × (m.here + 2 ≤ s.n) }
     ensures stands { Takes s t.old u.old m t.new u.new result (Stopping.past_two_up (K.kind s.ld s.n) binary64 s.ld s.n) }
     ensures counts { IfOk result (λ r. (r.here ≡ m.here - 2) × More (2 * K.most) m r) }
 {
     let here = m.here;
     if s.zero_below(t, here - 1) {
-        let a = trying::<K>(s, t, u, here, 1, 1, m)?;
-        let b = trying::<K>(s, t, u, here - 1, 1, 1, a)?;
+        let a = trying::<K>(s, t, u, here, 1, 1, m, ahead)?;
+        let b = trying::<K>(s, t, u, here - 1, 1, 1, a, ahead)?;
         return Ok(b.arrived(here - 2));
     }
-    let a = trying::<K>(s, t, u, here - 1, 2, 1, m)?;
+    let a = trying::<K>(s, t, u, here - 1, 2, 1, m, ahead)?;
     Ok(a.arrived(here - 2))
 }
 
 // Two rows, the upper first.
-fn apart_up<K: Kind>(s: Shape, t: &mut [f64], u: &mut [f64], m: Moving) -> Result<Moving, Moving>
+fn apart_up<K: Kind>(
+    s: Shape,
+    t: &mut [f64],
+    u: &mut [f64],
+    m: Moving,
+    ahead: &mut Ahead,
+) -> Result<Moving, Moving>
     requires { Holds s t.old × Beside s u.old × Few 1000 m × (0 < m.here) × (m.here + 2 ≤ s.n) }
     ensures stands { Takes s t.old u.old m t.new u.new result (Stopping.apart_up (K.kind s.ld s.n) binary64 s.ld s.n) }
     ensures counts { IfOk result (λ r. (r.here < m.here) × More (3 * K.most) m r) }
 {
     let here = m.here;
     let next = s.size_above(t, here);
-    let above = trying::<K>(s, t, u, here - next, next, 1, m)?;
+    let above = trying::<K>(s, t, u, here - next, next, 1, m, ahead)?;
     if next == 1 {
-        let a = trying::<K>(s, t, u, here, 1, 1, above)?;
+        let a = trying::<K>(s, t, u, here, 1, 1, above, ahead)?;
         return Ok(a.arrived(here - 1));
     }
-    past_two_up::<K>(s, t, u, above)
+    past_two_up::<K>(s, t, u, above, ahead)
 }
 
 // One step up.
@@ -245,13 +285,14 @@ pub(crate) fn step_up<K: Kind>(
     t: &mut [f64],
     u: &mut [f64],
     m: Moving,
+    ahead: &mut Ahead,
 ) -> Result<Moving, Moving>
     requires { Holds s t.old × Beside s u.old × Few 1000 m × (0 < m.here) × (m.here + rows m.block ≤ s.n) }
     ensures stands { Takes s t.old u.old m t.new u.new result (Stopping.step_up (K.kind s.ld s.n) binary64 s.ld s.n) }
     ensures counts { IfOk result (λ r. (r.here < m.here) × More (3 * K.most) m r) }
 {
     match m.block {
-        Block::Parted => apart_up::<K>(s, t, u, m),
-        Block::One | Block::Two => whole_up::<K>(s, t, u, m),
+        Block::Parted => apart_up::<K>(s, t, u, m, ahead),
+        Block::One | Block::Two => whole_up::<K>(s, t, u, m, ahead),
     }
 }

@@ -9,6 +9,7 @@ use crate::counts::Counts;
 use crate::moving::{Block, Kind, Moving, step_down, step_up};
 use form::shape::{Shape, goal_down};
 use std::cmp::Ordering;
+use swaps::ahead::{Ahead, Way};
 
 // Down until the goal is reached or a step stops: a `while`, since a step is as long as the block that it passes.
 fn walk_down<K: Kind>(
@@ -22,8 +23,10 @@ fn walk_down<K: Kind>(
     ensures { Takes s t.old u.old m t.new u.new result (Stopping.walk_down (K.kind s.ld s.n) s.n binary64 s.ld s.n goal) }
 {
     let mut on = m;
+    let mut ahead = Ahead::none();
     while on.here < goal {
-        on = step_down::<K>(s, t, u, on)?;
+        ahead.next = (on.block == Block::One && on.here + 1 < goal).then_some(Way::Down);
+        on = step_down::<K>(s, t, u, on, &mut ahead)?;
     }
     Ok(on)
 }
@@ -40,8 +43,10 @@ fn walk_up<K: Kind>(
     ensures { Takes s t.old u.old m t.new u.new result (Stopping.walk_up (K.kind s.ld s.n) s.n binary64 s.ld s.n goal) }
 {
     let mut on = m;
+    let mut ahead = Ahead::none();
     while goal < on.here {
-        on = step_up::<K>(s, t, u, on)?;
+        ahead.next = (on.block == Block::One && goal + 1 < on.here).then_some(Way::Up);
+        on = step_up::<K>(s, t, u, on, &mut ahead)?;
     }
     Ok(on)
 }
