@@ -1,7 +1,7 @@
 -- The modulus by the tests that the code makes on the two numbers, over the format. Assumes nothing.
 use mathlib.Core.Path.{◌≡◌, refl, sym, ap, ◌∙◌, subst}
 use mathlib.Core.Bool.{Bool, true, false, not, ◌&&◌, ◌||◌, true≢false}
-use Prim.Native.Nat.{ℕ, zero, suc, ◌+◌, ◌*◌, ◌%◌, ◌^◌, ◌<◌, min, max}
+use Prim.Native.Nat.{ℕ, zero, suc, ◌+◌, ◌*◌, ◌%◌, ◌^◌, ◌<◌, ◌≤◌, min, max}
 use native.Mathlib.Nat.{zero-lt-suc}
 use native.Mathlib.Omega.{arith}
 use native.Mathlib.Decide.{dec_lt}
@@ -10,16 +10,10 @@ use lib.IntN.{ℤ, pos, negsuc}
 use lib.Pow.{pow_pos}
 use lib.Ieee.{Float, nan, inf, fin, Format, binary64, is_nan, fits, of_bits, to_bits, up, down}
 use lib.Ieee.Bits.{of_bits-to_bits}
-use Rattle.std.specs.Float.{float_is_finite, float_is_infinite, float_with_sign}
+use Rattle.std.specs.Float.{float_is_finite, float_is_infinite}
 use Rattle.model.specs.Root.{amount}
 use Rattle.model.specs.Arith.{abs, is_inf, modulus, four_squares, half_root, hypot}
 use Rattle.laws.proofs.Values.{finite_below}
-
-pub magnitude : (x : Float) → float_with_sign false x ≡ abs x
-unfolding float_with_sign abs
-magnitude nan = refl
-magnitude (inf s) = refl
-magnitude (fin s m e) = refl
 
 -- ---- by what the two are
 is_infinite : (x : Float) → is_inf x ≡ float_is_infinite x
@@ -53,7 +47,7 @@ pub hypot_finite : (f : Format) (p q : Float) → float_is_finite p ≡ true →
 unfolding hypot
 hypot_finite f p q hp hq = let x = finite p hp in let y = finite q hq in rw (x.0, y.0, x.1, y.1)
 
-fits-abs : (f : Format) (x : Float) → T (fits f x) → T (fits f (abs x))
+pub fits-abs : (f : Format) (x : Float) → T (fits f x) → T (fits f (abs x))
 unfolding abs fits
 fits-abs f nan w = w
 fits-abs f (inf s) w = w
@@ -113,3 +107,11 @@ unsigned (fin true zero e) w h = rw (zero-fits e w) (refl, omega arith)
 unsigned (fin false zero e) w h = rw (zero-fits e w) (refl, omega arith)
 unsigned (fin true (suc m) e) w h = let b = finite_below binary64 (fin false (suc m) e) w (lt→ltb 0 (suc m) (zero-lt-suc m)) in (omega (arith, b), omega (arith, b))
 unsigned (fin false (suc m) e) w h = let b = finite_below binary64 (fin false (suc m) e) w (lt→ltb 0 (suc m) (zero-lt-suc m)) in (omega (arith, b), omega (arith, b))
+
+-- of any number but a NaN it is that of the magnitude
+pub unsigned_number : (x : Float) → T (fits binary64 x) → is_nan x ≡ false → (to_bits binary64 x % 0x8000_0000_0000_0000 ≡ to_bits binary64 (abs x)) × (to_bits binary64 x % 0x8000_0000_0000_0000 ≤ 0x7ff0_0000_0000_0000)
+unfolding abs to_bits is_nan float_is_finite
+unsigned_number nan w h = absurd (true≢false h)
+unsigned_number (inf true) w h = (refl, omega arith)
+unsigned_number (inf false) w h = (refl, omega arith)
+unsigned_number (fin s m e) w h = let u = unsigned (fin s m e) w refl in (u.0, omega (arith, u.1))

@@ -1,2 +1,3 @@
 pub mod Hypot
 pub mod Left
+pub mod Negated

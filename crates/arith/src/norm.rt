@@ -4,11 +4,8 @@ ghost use Rattle.std.specs.Float.{binary64, float_is_finite};
 ghost use Rattle.std.specs.Float.Ieee.{to_bits};
 ghost use Rattle.model.specs.Arith as Arith;
 
-use crate::real::abs;
+use crate::real::{SIGN, abs};
 use modulus::bits::modulus_bits;
-
-// The weight of the sign.
-const SIGN: u64 = 0x8000_0000_0000_0000;
 
 // The pattern of a finite number's magnitude.
 fn magnitude(x: f64) -> u64

@@ -9,12 +9,19 @@ pub const EPS: f64 = f64::EPSILON;
 // 2^-1022, the smallest normal number.
 pub const MIN_POSITIVE: f64 = f64::MIN_POSITIVE;
 
-// The magnitude: both zeros give +0.
-#[tactic(auto, using(crate::proofs::Hypot::magnitude))]
+// The weight of the sign in a pattern.
+pub(crate) const SIGN: u64 = 0x8000_0000_0000_0000;
+
+// The magnitude: both zeros give +0. By the pattern, which is one instruction where the compiler knows that there is no
+// NaN; the library's compares, twice, and what waits for it waits for those.
 pub fn abs(x: f64) -> f64
     ensures { result ≡ Arith.abs x }
 {
-    x.abs()
+    if x.is_nan() {
+        x
+    } else {
+        f64::from_bits(x.to_bits() % SIGN)
+    }
 }
 
 // The magnitude, by the name that it has for a complex number's two parts added.

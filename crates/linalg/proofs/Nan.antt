@@ -71,3 +71,22 @@ one_test p q h = rw (number q h) (either_way (lt (abs q) (abs p)) (abs p) (abs q
 pub rotg_nan : (f : Format) (p : Float) → eq p (zero_of f) ≡ false → rotg f p nan ≡ record { rot = record { c = nan; s = nan }; r = nan }
 unfolding rotg eq neg
 rotg_nan f p h = rw (h, signed_nan f p, div_nan f p, div_nan f (neg nan))
+
+-- a NaN for p, and q not zero
+nan_add : (f : Format) (x : Float) → add f nan x ≡ nan
+unfolding add
+nan_add f x = refl
+
+nan-norm : (f : Format) (q : Float) → rotg_norm f nan q ≡ nan
+unfolding rotg_norm
+nan-norm f q =
+    let k = rotg_scale f nan q in
+    rw (nan_div f k, mul_nan f nan, nan_add f (mul f (div f q k) (div f q k)), sqrt_nan f, mul_nan f k)
+
+nan_signed : (f : Format) (q : Float) → rotg_signed f nan q ≡ nan
+unfolding rotg_signed neg
+nan_signed f q = rw (nan-norm f q) (either (lt (zero_of f) (rotg_larger nan q)))
+
+pub nan_rotg : (f : Format) (q : Float) → eq q (zero_of f) ≡ false → rotg f nan q ≡ record { rot = record { c = nan; s = nan }; r = nan }
+unfolding rotg eq neg
+nan_rotg f q h = rw (h, nan_signed f q, nan_div f nan, div_nan f (neg q))

@@ -30,12 +30,13 @@ pub struct Pair {
     pub y: f64,
 }
 
-// Two numbers that a rotation is made of, the second no NaN.
+// Two numbers that a rotation is made of, none of them a NaN.
 #[derive(Clone, Copy)]
 struct Numbers {
     p: f64,
     q: f64,
-    ghost number: { is_nan q ≡ false },
+    ghost number: { is_nan p ≡ false },
+    ghost other: { is_nan q ≡ false },
 }
 
 // A magnitude kept within MIN_POSITIVE and its reciprocal. A call, so that the compiler makes no tests of it that are
@@ -49,7 +50,7 @@ fn kept_within(m: f64) -> f64
 }
 
 impl Numbers {
-    // The larger magnitude. q is no NaN, so one comparison does.
+    // The larger magnitude. There is no NaN, so one comparison does.
     fn magnitude(self) -> f64
         ensures { result ≡ Arith.fmax (Arith.abs self.p) (Arith.abs self.q) }
     {
@@ -72,15 +73,6 @@ impl Numbers {
         }
     }
 
-    // The root of p * p + q * q, worked at that scale.
-    #[tactic(auto, unfolding(model::specs::Jacobi::rotg_norm))]
-    fn norm(self) -> f64
-        ensures { result ≡ Jacobi.rotg_norm binary64 self.p self.q }
-    {
-        let scl = self.scale();
-        scl * sqrt(abs2(self.p / scl) + abs2(self.q / scl))
-    }
-
     // The number that is larger in magnitude, q at a tie.
     #[tactic(auto, unfolding(model::specs::Jacobi::rotg_larger))]
     fn larger(self) -> f64
@@ -93,13 +85,15 @@ impl Numbers {
         }
     }
 
-    // That root with the sign of the larger number.
-    #[tactic(auto, unfolding(model::specs::Jacobi::rotg_signed))]
+    // The root of p * p + q * q, worked at that scale, with the sign of the larger number. The scale takes the sign, which
+    // is known before the root is.
     fn signed(self) -> f64
         ensures { result ≡ Jacobi.rotg_signed binary64 self.p self.q }
     {
-        let r = self.norm();
-        if self.larger() > 0.0 { r } else { -r }
+        let scl = self.scale();
+        let root = sqrt(abs2(self.p / scl) + abs2(self.q / scl));
+        let side = if self.larger() > 0.0 { scl } else { -scl };
+        side * root
     }
 }
 
@@ -116,7 +110,7 @@ pub fn rotg(p: f64, q: f64) -> RotationWith
         let rot = JacobiRotation { c: 0.0, s: -1.0 };
         return RotationWith { rot, r: q };
     }
-    if q.is_nan() {
+    if p.is_nan() || q.is_nan() {
         let nan = f64::NAN;
         let rot = JacobiRotation { c: nan, s: nan };
         return RotationWith { rot, r: nan };
