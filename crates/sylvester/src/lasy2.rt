@@ -69,6 +69,7 @@ fn exceeds(t: f64, b: f64) -> bool
 }
 
 // Row r with the multiple of row p taken off that clears place i, where the multiplier then stands.
+#[inline(always)]
 #[tactic(auto, using(arith::proofs::Left::left_suc), unfolding(model::specs::Lasy2::reduced_row, model::specs::Lasy2::less_from))]
 fn reduced_row(p: [f64; 4], i: usize, mut r: [f64; 4]) -> [f64; 4]
     requires { i < 4 }
@@ -95,6 +96,7 @@ impl Model for Pivot {
 impl Pivot {
     // x at (i, j) where its magnitude is at least the largest so far: so the last of equal ones, and
     // never a NaN.
+    #[inline(always)]
     #[tactic(auto, unfolding(model::specs::Lasy2::better))]
     fn better(self, x: f64, i: usize, j: usize) -> Pivot
         requires { (i < 4) × (j < 4) }
@@ -135,6 +137,7 @@ impl System {
     }
 
     // The largest magnitude at or below and right of (i, i); (i, i) where nothing is found.
+    #[inline(always)]
     #[tactic(auto, using(arith::proofs::Left::left_suc), unfolding(model::specs::Lasy2::pivot, model::specs::Lasy2::pivot_from, model::specs::Lasy2::pivot_in_row))]
     fn pivot(&self, i: usize) -> Pivot
         requires { i < 4 }
@@ -154,6 +157,7 @@ impl System {
     }
 
     // The pivot p brought to (i, i).
+    #[inline(always)]
     #[tactic(auto, using(arith::proofs::Left::left_suc, std::proofs::lemmas::List::Edits::swap_is), unfolding(crate::proofs::Order::cols_from, model::specs::Lasy2::swap_places))]
     fn exchange(mut self, i: usize, p: Pivot) -> System
         requires { i < 4 }
@@ -170,6 +174,7 @@ impl System {
     }
 
     // A diagonal number below smin in magnitude becomes smin.
+    #[inline(always)]
     #[tactic(auto, unfolding(model::specs::Lasy2::raised))]
     fn raised(mut self, i: usize) -> System
         requires { i < 4 }
@@ -182,6 +187,7 @@ impl System {
     }
 
     // Column i cleared below (i, i).
+    #[inline(always)]
     #[tactic(auto, using(arith::proofs::Left::left_suc), unfolding(model::specs::Lasy2::eliminate, model::specs::Lasy2::eliminate_from))]
     fn eliminate(mut self, i: usize) -> System
         requires { i < 4 }
@@ -194,6 +200,7 @@ impl System {
     }
 
     // The same of the right-hand side, by the multipliers that then stand in column i.
+    #[inline(always)]
     #[tactic(auto, using(arith::proofs::Left::left_suc), unfolding(model::specs::Lasy2::rhs_from))]
     fn eliminate_rhs(mut self, i: usize) -> System
         requires { i < 4 }
@@ -206,6 +213,7 @@ impl System {
     }
 
     // Step i of the elimination, and the column that its pivot stood in.
+    #[inline(always)]
     #[tactic(auto, unfolding(model::specs::Lasy2::reduced, model::specs::Lasy2::reduced_rhs))]
     fn step(self, i: usize) -> (System, usize)
         requires { i < 4 }
@@ -247,6 +255,7 @@ impl System {
     }
 
     // The number of x at place k, from those behind it.
+    #[inline(always)]
     #[tactic(auto, using(arith::proofs::Left::left_suc), unfolding(model::specs::Lasy2::entry_at, model::specs::Lasy2::entry_from))]
     fn entry(&self, k: usize, x: &[f64; 4]) -> f64
         requires { k < 4 }
@@ -261,6 +270,7 @@ impl System {
     }
 
     // Back substitution, from the last row up.
+    #[inline(always)]
     #[tactic(auto, using(crate::proofs::Order::up_next, crate::proofs::Order::up_none), unfolding(crate::proofs::Order::up_from, model::specs::Lasy2::back))]
     fn back(&self) -> [f64; 4]
         ensures { result ≡ Lasy2.back binary64 self.now.t self.now.b }
@@ -272,24 +282,21 @@ impl System {
         x
     }
 
-    // x and its scale, with the order of the columns undone.
-    #[tactic(auto, using(arith::proofs::Left::left_suc), unfolding(crate::proofs::Steps::steps, crate::proofs::Steps::step))]
+    // x and its scale, with the order of the columns undone. The three steps stand one by one, and what they call goes in
+    // line: so each number of a step is known, the compiler writes out every loop, and the numbers stay in registers.
+    #[tactic(auto, using(std::proofs::lemmas::List::Edits::swap_is), unfolding(model::specs::Lasy2::solved, model::specs::Lasy2::triangular, model::specs::Lasy2::swap_places))]
     fn solve(self) -> Solution
         ensures { solution result ≡ Lasy2.solved binary64 self.smin self.t self.b }
     {
-        let mut s = self;
-        let mut cols = [0; 3];
-        for i in 0..3 {
-            let (next, col) = s.step(i);
-            s = next;
-            cols[i] = col;
-        }
+        let (s, c0) = self.step(0);
+        let (s, c1) = s.step(1);
+        let (s, c2) = s.step(2);
         let mut s = s.raised(3);
         let scale = s.scale_rhs();
         let mut x = s.back();
-        for i in (0..3).rev() {
-            x.swap(i, cols[i]);
-        }
+        x.swap(2, c2);
+        x.swap(1, c1);
+        x.swap(0, c0);
         Solution { x, scale }
     }
 }
