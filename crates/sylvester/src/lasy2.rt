@@ -117,6 +117,7 @@ impl Pivot {
 
 impl System {
     // tl * x - x * tr = b, for x column after column.
+    #[inline(always)]
     #[tactic(auto, unfolding(model::specs::Lasy2::t16_of, model::specs::Lasy2::btmp_of))]
     fn new(tl: [[f64; 2]; 2], tr: [[f64; 2]; 2], b: [[f64; 2]; 2]) -> System
         ensures t { result.t ≡ Lasy2.t16_of binary64 tl tr }
@@ -284,6 +285,7 @@ impl System {
 
     // x and its scale, with the order of the columns undone. The three steps stand one by one, and what they call goes in
     // line: so each number of a step is known, the compiler writes out every loop, and the numbers stay in registers.
+    #[inline(always)]
     #[tactic(auto, using(std::proofs::lemmas::List::Edits::swap_is), unfolding(model::specs::Lasy2::solved, model::specs::Lasy2::triangular, model::specs::Lasy2::swap_places))]
     fn solve(self) -> Solution
         ensures { solution result ≡ Lasy2.solved binary64 self.smin self.t self.b }
@@ -302,6 +304,7 @@ impl System {
 }
 
 // x and scale of tl * x - x * tr = scale * b. A pivot below smin is replaced by smin.
+#[inline(always)]
 #[tactic(auto, unfolding(model::specs::Lasy2::lasy2))]
 pub fn lasy2(tl: [[f64; 2]; 2], tr: [[f64; 2]; 2], b: [[f64; 2]; 2]) -> Solution
     ensures { sylvester result ≡ Lasy2.lasy2 binary64 tl tr b }
