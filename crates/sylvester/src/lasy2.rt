@@ -1,7 +1,8 @@
 // The small Sylvester solve: lasy2, two by two against two by two, by full pivoting on a four by
 // four system. A matrix is an array of its rows: t[i][j] stands in row i, column j.
-ghost use Rattle.std.specs.Prelude.{◌≡◌, ◌<◌, ◌+◌, ◌-◌, set};
+ghost use Rattle.std.specs.Prelude.{◌≡◌, ◌<◌, ◌+◌, ◌-◌, cond, set};
 ghost use Rattle.std.specs.Float.{binary64};
+ghost use Rattle.std.specs.Float.Ieee.{le};
 ghost use Rattle.model.specs.Lasy2 as Lasy2;
 ghost use Rattle.sylvester.specs.View.{solution, sylvester};
 
@@ -113,6 +114,14 @@ impl Pivot {
             self
         }
     }
+
+    // The larger of this and another, which comes later: the later one of equal ones.
+    #[inline(always)]
+    fn or_later(self, other: Pivot) -> Pivot
+        ensures { result ≡ cond (le self.xmax other.xmax) other self }
+    {
+        if other.xmax >= self.xmax { other } else { self }
+    }
 }
 
 impl System {
@@ -137,41 +146,81 @@ impl System {
         }
     }
 
-    // The largest magnitude at or below and right of (i, i); (i, i) where nothing is found.
+    // The largest magnitude at or below and right of (i, i); (i, i) where nothing is found. Each row begins anew, below
+    // all magnitudes, so that no row waits for the one before it: a row of NaNs stays there, and is never taken.
     #[inline(always)]
     #[tactic(auto, using(arith::proofs::Left::left_suc), unfolding(model::specs::Lasy2::pivot, model::specs::Lasy2::pivot_from, model::specs::Lasy2::pivot_in_row))]
     fn pivot(&self, i: usize) -> Pivot
         requires { i < 4 }
         ensures { result ≡ Lasy2.pivot binary64 self.now.t i }
     {
-        let mut best = Pivot {
+        let mut found = Pivot {
             xmax: 0.0,
             row: i,
             col: i,
         };
         for ip in i..4 {
+            let mut best = Pivot {
+                xmax: -1.0,
+                row: ip,
+                col: i,
+            };
             for jp in i..4 {
                 best = best.better(self.t[ip][jp], ip, jp);
             }
+            found = found.or_later(best);
         }
-        best
+        found
     }
 
-    // The pivot p brought to (i, i).
+    // Rows r and i exchanged, on both sides.
+    #[inline(always)]
+    #[tactic(auto, using(std::proofs::lemmas::List::Edits::swap_is), unfolding(model::specs::Lasy2::swap_rows, model::specs::Lasy2::swap_places))]
+    fn swap_rows(mut self, r: usize, i: usize) -> System
+        requires { (r < 4) × (i < 4) }
+        ensures t { result.t ≡ Lasy2.swap_rows self.t r i }
+        ensures b { result.b ≡ Lasy2.swap_places self.b r i }
+        ensures smin { result.smin ≡ self.smin }
+    {
+        self.t.swap(r, i);
+        self.b.swap(r, i);
+        self
+    }
+
+    // Columns c and i exchanged.
     #[inline(always)]
     #[tactic(auto, using(arith::proofs::Left::left_suc, std::proofs::lemmas::List::Edits::swap_is), unfolding(crate::proofs::Order::cols_from, model::specs::Lasy2::swap_places))]
-    fn exchange(mut self, i: usize, p: Pivot) -> System
+    fn swap_cols(mut self, c: usize, i: usize) -> System
+        requires { (c < 4) × (i < 4) }
+        ensures { result ≡ record self { t = Lasy2.swap_cols self.t c i } }
+    {
+        for row in &mut self.t {
+            row.swap(c, i);
+        }
+        self
+    }
+
+    // The pivot p brought to (i, i). By a `match`, since each arm then knows its places: so no place is computed, and
+    // the numbers stay in registers.
+    #[inline(always)]
+    fn exchange(self, i: usize, p: Pivot) -> System
         requires { i < 4 }
         ensures t { result.t ≡ Lasy2.swap_cols (Lasy2.swap_rows self.t p.row i) p.col i }
         ensures b { result.b ≡ Lasy2.swap_places self.b p.row i }
         ensures smin { result.smin ≡ self.smin }
     {
-        self.t.swap(p.row, i);
-        self.b.swap(p.row, i);
-        for row in &mut self.t {
-            row.swap(p.col, i);
+        let s = match p.row {
+            0 => self.swap_rows(0, i),
+            1 => self.swap_rows(1, i),
+            2 => self.swap_rows(2, i),
+            _ => self.swap_rows(3, i),
+        };
+        match p.col {
+            0 => s.swap_cols(0, i),
+            1 => s.swap_cols(1, i),
+            2 => s.swap_cols(2, i),
+            _ => s.swap_cols(3, i),
         }
-        self
     }
 
     // A diagonal number below smin in magnitude becomes smin.
@@ -230,6 +279,7 @@ impl System {
     }
 
     // Whether a number of b is so large in any row: by `any` over the rows the proof does not close.
+    #[inline(always)]
     #[tactic(auto, unfolding(model::specs::Lasy2::too_large))]
     fn too_large(&self) -> bool
         ensures { result ≡ Lasy2.too_large binary64 self.now.t self.now.b }
@@ -241,6 +291,7 @@ impl System {
     }
 
     // b scaled down where that has to be, and its scale.
+    #[inline(always)]
     #[tactic(auto, using(crate::proofs::Order::four_is), unfolding(model::specs::Lasy2::scaled_rhs, model::specs::Lasy2::scaled_by))]
     fn scale_rhs(&mut self) -> f64
         ensures b { (record { x = self.new.b; scale = result }) ≡ Lasy2.scaled_rhs binary64 self.old.t self.old.b }
