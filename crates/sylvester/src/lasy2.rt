@@ -1,8 +1,7 @@
 // The small Sylvester solve: lasy2, two by two against two by two, by full pivoting on a four by
 // four system. A matrix is an array of its rows: t[i][j] stands in row i, column j.
-ghost use Rattle.std.specs.Prelude.{◌≡◌, ◌<◌, ◌+◌, ◌-◌, cond, set};
+ghost use Rattle.std.specs.Prelude.{◌≡◌, ◌<◌, ◌+◌, ◌-◌, set};
 ghost use Rattle.std.specs.Float.{binary64};
-ghost use Rattle.std.specs.Float.Ieee.{le};
 ghost use Rattle.model.specs.Lasy2 as Lasy2;
 ghost use Rattle.sylvester.specs.View.{solution, sylvester};
 
@@ -25,9 +24,9 @@ struct Pivot {
 }
 
 // The system t * x = b of four rows, and its least pivot. It goes through its steps by value, as document 01 asks
-// of t. A step or a place is a number below 4, as `for` gives it: a struct with the bound in it would have to be
-// made of that number at each turn. Rows go by index: a loop reads row i while it writes those behind it, or reads
-// two lists at the same place.
+// of t. A step or a place is a number below 4, written out or as `for` gives it: a struct with the bound in it would
+// have to be made of that number at each turn. Rows go by index: a loop reads row i while it writes those behind it,
+// or reads two lists at the same place.
 #[derive(Clone, Copy)]
 struct System {
     t: [[f64; 4]; 4],
@@ -114,14 +113,6 @@ impl Pivot {
             self
         }
     }
-
-    // The larger of this and another, which comes later: the later one of equal ones.
-    #[inline(always)]
-    fn or_later(self, other: Pivot) -> Pivot
-        ensures { result ≡ cond (le self.xmax other.xmax) other self }
-    {
-        if other.xmax >= self.xmax { other } else { self }
-    }
 }
 
 impl System {
@@ -154,23 +145,17 @@ impl System {
         requires { i < 4 }
         ensures { result ≡ Lasy2.pivot binary64 self.now.t i }
     {
-        let mut found = Pivot {
+        let mut best = Pivot {
             xmax: 0.0,
             row: i,
             col: i,
         };
         for ip in i..4 {
-            let mut best = Pivot {
-                xmax: -1.0,
-                row: ip,
-                col: i,
-            };
             for jp in i..4 {
                 best = best.better(self.t[ip][jp], ip, jp);
             }
-            found = found.or_later(best);
         }
-        found
+        best
     }
 
     // Rows r and i exchanged, on both sides.
@@ -200,8 +185,8 @@ impl System {
         self
     }
 
-    // The pivot p brought to (i, i). By a `match`, since each arm then knows its places: so no place is computed, and
-    // the numbers stay in registers.
+    // The pivot p brought to (i, i). By `match`, whose arms know their places: an exchange at a place that is computed
+    // would have all of t stored, and read again before it is there.
     #[inline(always)]
     fn exchange(self, i: usize, p: Pivot) -> System
         requires { i < 4 }
@@ -334,8 +319,8 @@ impl System {
         x
     }
 
-    // x and its scale, with the order of the columns undone. The three steps stand one by one, and what they call goes in
-    // line: so each number of a step is known, the compiler writes out every loop, and the numbers stay in registers.
+    // x and its scale, with the order of the columns undone. The three steps are no loop, and what they call goes in
+    // line: each step is a number that the compiler knows, so it writes out all loops below and keeps t in registers.
     #[inline(always)]
     #[tactic(auto, using(std::proofs::lemmas::List::Edits::swap_is), unfolding(model::specs::Lasy2::solved, model::specs::Lasy2::triangular, model::specs::Lasy2::swap_places))]
     fn solve(self) -> Solution
@@ -354,7 +339,8 @@ impl System {
     }
 }
 
-// x and scale of tl * x - x * tr = scale * b. A pivot below smin is replaced by smin.
+// x and scale of tl * x - x * tr = scale * b. A pivot below smin is replaced by smin. In line, so that its arrays are
+// not stored to be handed over.
 #[inline(always)]
 #[tactic(auto, unfolding(model::specs::Lasy2::lasy2))]
 pub fn lasy2(tl: [[f64; 2]; 2], tr: [[f64; 2]; 2], b: [[f64; 2]; 2]) -> Solution
