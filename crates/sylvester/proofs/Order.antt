@@ -1,10 +1,8 @@
 -- What is left of back substitution, from the last place up, and of exchanging two columns, row after row; a list of four by its numbers. Assumes nothing.
-use Rattle.std.proofs.Common.{◌≡◌, ℕ, suc, ◌+◌, ◌-◌, ◌<◌, List, [], ◌∷◌, length, get_or, set, refl, sym, ◌∙◌, arith}
+use Rattle.std.proofs.Common.{◌≡◌, ℕ, suc, ◌+◌, ◌-◌, ◌<◌, List, [], ◌∷◌, length, get_or, set, refl, ◌∙◌, arith}
 use Rattle.std.specs.Float.{nan, binary64}
 use Rattle.std.specs.Prelude.{zero, Float}
-use Rattle.std.specs.List.{swap}
-use Rattle.std.proofs.lemmas.List.Edits.{swap_is}
-use Rattle.model.specs.Lasy2.{row, swap_places, swap_rows, swap_cols, entry_at}
+use Rattle.model.specs.Lasy2.{row, swap_places, swap_cols, entry_at}
 
 -- x with its numbers at the k first places, from those behind them
 unfoldable pub up_from : List (List Float) → List Float → ℕ → List Float → List Float
@@ -34,10 +32,6 @@ pub cols_done : (i j left r : ℕ) (t u : List (List Float)) → left ≡ 0 → 
 unfolding cols_from
 cols_done i j zero r t u z h e = e ∙ whole i j u h
 cols_done i j (suc left) r t u z h e = absurd (omega arith)
-
-pub rows_swapped : (t : List (List Float)) (i j : ℕ) → i < length t → j < length t → swap t i j ≡ swap_rows t i j
-unfolding swap_rows
-rows_swapped t i j h k = sym (swap_is t i j [] h k)
 
 pub four_is : (x : List Float) (a b c d : Float) → length x ≡ 4 → get_or x 0 nan ≡ a → get_or x 1 nan ≡ b → get_or x 2 nan ≡ c → get_or x 3 nan ≡ d → x ≡ a ∷ b ∷ c ∷ d ∷ []
 four_is (p ∷ q ∷ r ∷ s ∷ []) a b c d l e f g h = rw (← e, ← f, ← g, ← h)

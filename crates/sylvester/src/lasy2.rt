@@ -24,9 +24,9 @@ struct Pivot {
 }
 
 // The system t * x = b of four rows, and its least pivot. It goes through its steps by value, as document 01 asks
-// of t. A step or a place is a number below 4, as `for` gives it: a struct with the bound in it would have to be
-// made of that number at each turn. Rows go by index: a loop reads row i while it writes those behind it, or reads
-// two lists at the same place.
+// of t. A step or a place is a number below 4, written out or as `for` gives it: a struct with the bound in it would
+// have to be made of that number at each turn. Rows go by index: a loop reads row i while it writes those behind it,
+// or reads two lists at the same place.
 #[derive(Clone, Copy)]
 struct System {
     t: [[f64; 4]; 4],
@@ -69,6 +69,7 @@ fn exceeds(t: f64, b: f64) -> bool
 }
 
 // Row r with the multiple of row p taken off that clears place i, where the multiplier then stands.
+#[inline(always)]
 #[tactic(auto, using(arith::proofs::Left::left_suc), unfolding(model::specs::Lasy2::reduced_row, model::specs::Lasy2::less_from))]
 fn reduced_row(p: [f64; 4], i: usize, mut r: [f64; 4]) -> [f64; 4]
     requires { i < 4 }
@@ -95,6 +96,7 @@ impl Model for Pivot {
 impl Pivot {
     // x at (i, j) where its magnitude is at least the largest so far: so the last of equal ones, and
     // never a NaN.
+    #[inline(always)]
     #[tactic(auto, unfolding(model::specs::Lasy2::better))]
     fn better(self, x: f64, i: usize, j: usize) -> Pivot
         requires { (i < 4) × (j < 4) }
@@ -115,6 +117,7 @@ impl Pivot {
 
 impl System {
     // tl * x - x * tr = b, for x column after column.
+    #[inline(always)]
     #[tactic(auto, unfolding(model::specs::Lasy2::t16_of, model::specs::Lasy2::btmp_of))]
     fn new(tl: [[f64; 2]; 2], tr: [[f64; 2]; 2], b: [[f64; 2]; 2]) -> System
         ensures t { result.t ≡ Lasy2.t16_of binary64 tl tr }
@@ -134,7 +137,9 @@ impl System {
         }
     }
 
-    // The largest magnitude at or below and right of (i, i); (i, i) where nothing is found.
+    // The largest magnitude at or below and right of (i, i); (i, i) where nothing is found. Each row begins anew, below
+    // all magnitudes, so that no row waits for the one before it: a row of NaNs stays there, and is never taken.
+    #[inline(always)]
     #[tactic(auto, using(arith::proofs::Left::left_suc), unfolding(model::specs::Lasy2::pivot, model::specs::Lasy2::pivot_from, model::specs::Lasy2::pivot_in_row))]
     fn pivot(&self, i: usize) -> Pivot
         requires { i < 4 }
@@ -153,23 +158,58 @@ impl System {
         best
     }
 
-    // The pivot p brought to (i, i).
+    // Rows r and i exchanged, on both sides.
+    #[inline(always)]
+    #[tactic(auto, using(std::proofs::lemmas::List::Edits::swap_is), unfolding(model::specs::Lasy2::swap_rows, model::specs::Lasy2::swap_places))]
+    fn swap_rows(mut self, r: usize, i: usize) -> System
+        requires { (r < 4) × (i < 4) }
+        ensures t { result.t ≡ Lasy2.swap_rows self.t r i }
+        ensures b { result.b ≡ Lasy2.swap_places self.b r i }
+        ensures smin { result.smin ≡ self.smin }
+    {
+        self.t.swap(r, i);
+        self.b.swap(r, i);
+        self
+    }
+
+    // Columns c and i exchanged.
+    #[inline(always)]
     #[tactic(auto, using(arith::proofs::Left::left_suc, std::proofs::lemmas::List::Edits::swap_is), unfolding(crate::proofs::Order::cols_from, model::specs::Lasy2::swap_places))]
-    fn exchange(mut self, i: usize, p: Pivot) -> System
+    fn swap_cols(mut self, c: usize, i: usize) -> System
+        requires { (c < 4) × (i < 4) }
+        ensures { result ≡ record self { t = Lasy2.swap_cols self.t c i } }
+    {
+        for row in &mut self.t {
+            row.swap(c, i);
+        }
+        self
+    }
+
+    // The pivot p brought to (i, i). By `match`, whose arms know their places: an exchange at a place that is computed
+    // would have all of t stored, and read again before it is there.
+    #[inline(always)]
+    fn exchange(self, i: usize, p: Pivot) -> System
         requires { i < 4 }
         ensures t { result.t ≡ Lasy2.swap_cols (Lasy2.swap_rows self.t p.row i) p.col i }
         ensures b { result.b ≡ Lasy2.swap_places self.b p.row i }
         ensures smin { result.smin ≡ self.smin }
     {
-        self.t.swap(p.row, i);
-        self.b.swap(p.row, i);
-        for row in &mut self.t {
-            row.swap(p.col, i);
+        let s = match p.row {
+            0 => self.swap_rows(0, i),
+            1 => self.swap_rows(1, i),
+            2 => self.swap_rows(2, i),
+            _ => self.swap_rows(3, i),
+        };
+        match p.col {
+            0 => s.swap_cols(0, i),
+            1 => s.swap_cols(1, i),
+            2 => s.swap_cols(2, i),
+            _ => s.swap_cols(3, i),
         }
-        self
     }
 
     // A diagonal number below smin in magnitude becomes smin.
+    #[inline(always)]
     #[tactic(auto, unfolding(model::specs::Lasy2::raised))]
     fn raised(mut self, i: usize) -> System
         requires { i < 4 }
@@ -182,6 +222,7 @@ impl System {
     }
 
     // Column i cleared below (i, i).
+    #[inline(always)]
     #[tactic(auto, using(arith::proofs::Left::left_suc), unfolding(model::specs::Lasy2::eliminate, model::specs::Lasy2::eliminate_from))]
     fn eliminate(mut self, i: usize) -> System
         requires { i < 4 }
@@ -194,6 +235,7 @@ impl System {
     }
 
     // The same of the right-hand side, by the multipliers that then stand in column i.
+    #[inline(always)]
     #[tactic(auto, using(arith::proofs::Left::left_suc), unfolding(model::specs::Lasy2::rhs_from))]
     fn eliminate_rhs(mut self, i: usize) -> System
         requires { i < 4 }
@@ -206,6 +248,7 @@ impl System {
     }
 
     // Step i of the elimination, and the column that its pivot stood in.
+    #[inline(always)]
     #[tactic(auto, unfolding(model::specs::Lasy2::reduced, model::specs::Lasy2::reduced_rhs))]
     fn step(self, i: usize) -> (System, usize)
         requires { i < 4 }
@@ -221,6 +264,7 @@ impl System {
     }
 
     // Whether a number of b is so large in any row: by `any` over the rows the proof does not close.
+    #[inline(always)]
     #[tactic(auto, unfolding(model::specs::Lasy2::too_large))]
     fn too_large(&self) -> bool
         ensures { result ≡ Lasy2.too_large binary64 self.now.t self.now.b }
@@ -232,6 +276,7 @@ impl System {
     }
 
     // b scaled down where that has to be, and its scale.
+    #[inline(always)]
     #[tactic(auto, using(crate::proofs::Order::four_is), unfolding(model::specs::Lasy2::scaled_rhs, model::specs::Lasy2::scaled_by))]
     fn scale_rhs(&mut self) -> f64
         ensures b { (record { x = self.new.b; scale = result }) ≡ Lasy2.scaled_rhs binary64 self.old.t self.old.b }
@@ -247,6 +292,7 @@ impl System {
     }
 
     // The number of x at place k, from those behind it.
+    #[inline(always)]
     #[tactic(auto, using(arith::proofs::Left::left_suc), unfolding(model::specs::Lasy2::entry_at, model::specs::Lasy2::entry_from))]
     fn entry(&self, k: usize, x: &[f64; 4]) -> f64
         requires { k < 4 }
@@ -261,6 +307,7 @@ impl System {
     }
 
     // Back substitution, from the last row up.
+    #[inline(always)]
     #[tactic(auto, using(crate::proofs::Order::up_next, crate::proofs::Order::up_none), unfolding(crate::proofs::Order::up_from, model::specs::Lasy2::back))]
     fn back(&self) -> [f64; 4]
         ensures { result ≡ Lasy2.back binary64 self.now.t self.now.b }
@@ -272,29 +319,29 @@ impl System {
         x
     }
 
-    // x and its scale, with the order of the columns undone.
-    #[tactic(auto, using(arith::proofs::Left::left_suc), unfolding(crate::proofs::Steps::steps, crate::proofs::Steps::step))]
+    // x and its scale, with the order of the columns undone. The three steps are no loop, and what they call goes in
+    // line: each step is a number that the compiler knows, so it writes out all loops below and keeps t in registers.
+    #[inline(always)]
+    #[tactic(auto, using(std::proofs::lemmas::List::Edits::swap_is), unfolding(model::specs::Lasy2::solved, model::specs::Lasy2::triangular, model::specs::Lasy2::swap_places))]
     fn solve(self) -> Solution
         ensures { solution result ≡ Lasy2.solved binary64 self.smin self.t self.b }
     {
-        let mut s = self;
-        let mut cols = [0; 3];
-        for i in 0..3 {
-            let (next, col) = s.step(i);
-            s = next;
-            cols[i] = col;
-        }
+        let (s, c0) = self.step(0);
+        let (s, c1) = s.step(1);
+        let (s, c2) = s.step(2);
         let mut s = s.raised(3);
         let scale = s.scale_rhs();
         let mut x = s.back();
-        for i in (0..3).rev() {
-            x.swap(i, cols[i]);
-        }
+        x.swap(2, c2);
+        x.swap(1, c1);
+        x.swap(0, c0);
         Solution { x, scale }
     }
 }
 
-// x and scale of tl * x - x * tr = scale * b. A pivot below smin is replaced by smin.
+// x and scale of tl * x - x * tr = scale * b. A pivot below smin is replaced by smin. In line, so that its arrays are
+// not stored to be handed over.
+#[inline(always)]
 #[tactic(auto, unfolding(model::specs::Lasy2::lasy2))]
 pub fn lasy2(tl: [[f64; 2]; 2], tr: [[f64; 2]; 2], b: [[f64; 2]; 2]) -> Solution
     ensures { sylvester result ≡ Lasy2.lasy2 binary64 tl tr b }
