@@ -9,7 +9,8 @@ ghost use Rattle.swaps.specs.Lines.{Inside, change_at};
 use crate::kernels::Kernel;
 use form::shape::Shape;
 
-// The numbers at N places changed, which stand side by side or not. Arrays are filled by index, here and below, for the reason that stands at `Window`.
+// The numbers at N places changed, which stand side by side or not. Arrays are filled by index, here and below, for the
+// reason that stands at `Window`.
 fn change<const N: usize, K: Kernel<N>, const BESIDE: bool>(t: &mut [f64], k: K, places: [usize; N])
     requires { Inside N places (length t.old) }
     ensures { t.new ≡ change_at N (K.gives k) (λ (m : ℕ). get_or places.entry m 0) t.old }

@@ -137,8 +137,7 @@ impl System {
         }
     }
 
-    // The largest magnitude at or below and right of (i, i); (i, i) where nothing is found. Each row begins anew, below
-    // all magnitudes, so that no row waits for the one before it: a row of NaNs stays there, and is never taken.
+    // The largest magnitude at or below and right of (i, i); (i, i) where nothing is found.
     #[inline(always)]
     #[tactic(auto, using(arith::proofs::Left::left_suc), unfolding(model::specs::Lasy2::pivot, model::specs::Lasy2::pivot_from, model::specs::Lasy2::pivot_in_row))]
     fn pivot(&self, i: usize) -> Pivot
