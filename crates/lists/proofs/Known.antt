@@ -18,7 +18,7 @@ use Rattle.form.specs.Lines.{further_line, positions_line}
 use Rattle.form.specs.declared.shape.Shape.{Shape}
 use Rattle.form.specs.Shaped.{IsOf, Beside}
 use Rattle.form.proofs.Runs.{still}
-use Rattle.walks.specs.declared.moving.Moving.{Moving}
+use Rattle.exchanges.specs.declared.reorder.Ended.{Ended}
 use Rattle.lists.specs.View.{moved}
 use Rattle.lists.specs.Known.{Known}
 
@@ -52,11 +52,11 @@ by_position k from to s x =
     (h, line_known k from to ∙ rw (x, h.0.rows))
 
 -- after a move
-pub known_on : {form : Result Shape Refusal} {n ld : ℕ} {t u t₁ u₁ : List Float} (r : Result Moving Refusal) (from to : ℕ) → Known form n ld t u
+pub known_on : {form : Result Shape Refusal} {n ld : ℕ} {t u t₁ u₁ : List Float} (r : Result Ended Refusal) (from to : ℕ) → Known form n ld t u
     → moved r t₁ u₁ ≡ move_call binary64 ld n t u from to → length t₁ ≡ length t → length u₁ ≡ length u → Known form n ld t₁ u₁
 known_on {form} {n} {ld} {t} {u} {t₁} {u₁} r from to k e a b = record { line = k.line ∙ sym (lent_stays binary64 ld n t u from to) ∙ x; shape = on form k.shape }
   where
-    both : (r : Result Moving Refusal) → lent_line binary64 ld n (moved r t₁ u₁).form (moved r t₁ u₁).factor ≡ lent_line binary64 ld n t₁ u₁
+    both : (r : Result Ended Refusal) → lent_line binary64 ld n (moved r t₁ u₁).form (moved r t₁ u₁).factor ≡ lent_line binary64 ld n t₁ u₁
     both (Ok m) = refl
     both (Err e) = refl
 

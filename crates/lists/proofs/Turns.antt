@@ -11,7 +11,7 @@ use Rattle.std.proofs.Common.{Result, Ok, Err}
 use Rattle.model.specs.Move.{Moved, move_call}
 use Rattle.model.specs.Lists.{Pair, pairs, line12, list_line, Listed, written, one_more, in_turn, list_call}
 use Rattle.refusal.specs.declared.Refusal.{Refusal}
-use Rattle.walks.specs.declared.moving.Moving.{Moving}
+use Rattle.exchanges.specs.declared.reorder.Ended.{Ended}
 use Rattle.lists.specs.View.{moved}
 
 -- the buffers of a list that is accepted
@@ -59,13 +59,13 @@ none_more ld n p (x ∷ y ∷ ms) s h = absurd (omega arith)
 
 module _ (ld n p : ℕ) (q : Pair) (t u : List Float) (rs : List ℕ) where
   -- a single call on these buffers, and its numbers written
-  from_call : (r : Result Moving Refusal) {t₁ u₁ : List Float} {rs₁ : List ℕ} → moved r t₁ u₁ ≡ move_call binary64 ld n t u q.from q.to → rs₁ ≡ written p (moved r t₁ u₁) rs
+  from_call : (r : Result Ended Refusal) {t₁ u₁ : List Float} {rs₁ : List ℕ} → moved r t₁ u₁ ≡ move_call binary64 ld n t u q.from q.to → rs₁ ≡ written p (moved r t₁ u₁) rs
       → lent t₁ u₁ rs₁ ≡ one_more binary64 ld n q p (lent t u rs)
   unfolding one_more
   from_call (Ok m) b c = rw c (ap (λ (m : Moved). lent m.form m.factor (written p m rs)) b)
   from_call (Err e) b c = rw c (ap (λ (m : Moved). lent m.form m.factor (written p m rs)) b)
 
-  pub one_pair : (r : Result Moving Refusal) (t₁ u₁ : List Float) (ms rest : List ℕ) {rs₁ : List ℕ} → pairs ms ≡ q ∷ pairs rest → moved r t₁ u₁ ≡ move_call binary64 ld n t u q.from q.to
+  pub one_pair : (r : Result Ended Refusal) (t₁ u₁ : List Float) (ms rest : List ℕ) {rs₁ : List ℕ} → pairs ms ≡ q ∷ pairs rest → moved r t₁ u₁ ≡ move_call binary64 ld n t u q.from q.to
       → rs₁ ≡ written p (moved r t₁ u₁) rs → in_turn binary64 ld n (pairs rest) (p + 4) (lent t₁ u₁ rs₁) ≡ in_turn binary64 ld n (pairs ms) p (lent t u rs)
   unfolding in_turn
   one_pair r t₁ u₁ ms rest a b c = ap (in_turn binary64 ld n (pairs rest) (p + 4)) (from_call r b c) ∙ sym (ap (λ (qs : List Pair). in_turn binary64 ld n qs p (lent t u rs)) a)

@@ -4,10 +4,10 @@ use Rattle.model.specs.Move as Move
 use Rattle.model.specs.Lists as Lists
 use Rattle.refusal.specs.Line.{line, answer}
 use Rattle.refusal.specs.declared.Refusal.{Refusal}
-use Rattle.walks.specs.declared.moving.Moving.{Moving}
+use Rattle.exchanges.specs.declared.reorder.Ended.{Ended}
 
 -- the answer of a pair, with what form and factor then hold
-abbrev pub moved : Result Moving Refusal → List Float → List Float → Move.Moved
+abbrev pub moved : Result Ended Refusal → List Float → List Float → Move.Moved
 moved (Ok m) t u = record { answer = 0; landed = m.here; swaps = m.counts.swaps; declined = m.counts.declined; form = t; factor = u }
 moved (Err e) t u = record { answer = line e; landed = 0; swaps = 0; declined = 0; form = t; factor = u }
 

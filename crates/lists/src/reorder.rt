@@ -7,12 +7,11 @@ ghost use Rattle.form.specs.Shaped.{Holds, Beside};
 ghost use Rattle.lists.specs.View.{moved, listed};
 ghost use Rattle.lists.specs.Known.{Known};
 
-use exchanges::reorder::reorder;
+use exchanges::reorder::{Ended, reorder};
 use form::lines::{accepted, positions};
 use form::shape::Shape;
 use refusal::Refusal;
 use walks::counts::Counts;
-use walks::moving::Moving;
 
 // The move of a pair. Which line turns form and factor away, if any does, is known from before the first pair: no move
 // changes that, so only line 7 is left to be tested.
@@ -22,7 +21,7 @@ fn next(
     u: &mut [f64],
     from: usize,
     to: usize,
-) -> Result<Moving, Refusal>
+) -> Result<Ended, Refusal>
     requires { IfOk form (λ s. Holds s t.old × Beside s u.old) }
     ensures { (n ld : ℕ) → Known form n ld t.old u.old → moved result t.new u.new ≡ Move.move_call binary64 ld n t.old u.old from to }
 {
@@ -33,7 +32,7 @@ fn next(
 
 // The four numbers of a pair's answer, from place p on.
 #[tactic(auto, unfolding(model::specs::Lists::written))]
-fn write(results: &mut [usize], p: usize, r: Result<Moving, Refusal>)
+fn write(results: &mut [usize], p: usize, r: Result<Ended, Refusal>)
     requires { p + 4 ≤ length results.old }
     ensures { (t u : List Float) → results.new ≡ Lists.written p (moved r t u) results.old }
 {

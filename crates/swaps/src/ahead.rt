@@ -19,12 +19,13 @@ pub enum Way {
     Down,
 }
 
-// The rotation of the numbers of patterns p and q.
+// The rotation of the numbers of patterns p and q, which do not stand side by side: the two would be read as one, before
+// what was written as two is there.
 #[derive(Clone, Copy)]
 struct Known {
     p: u64,
-    q: u64,
     rot: JacobiRotation,
+    q: u64,
     ghost is: { rotation rot ≡ turn (of_bits binary64 p) (of_bits binary64 q) },
 }
 
@@ -78,8 +79,8 @@ impl Known {
         }
         Some(Known {
             p: p.to_bits(),
-            q: q.to_bits(),
             rot: rotation_of(p, q),
+            q: q.to_bits(),
         })
     }
 
