@@ -7,7 +7,7 @@ ghost use Rattle.std.specs.Float.{binary64};
 ghost use Rattle.std.specs.Float.Ieee.{is_nan, of_bits};
 ghost use Rattle.form.specs.Shaped.{Holds};
 ghost use Rattle.linalg.specs.View.{rotation, pair};
-ghost use Rattle.swaps.specs.Ahead.{turn, same, beside, Last};
+ghost use Rattle.swaps.specs.Ahead.{turn, same, beside, last};
 
 use form::shape::Shape;
 use linalg::jacobi::{JacobiRotation, Pair, adjoint, apply_on_the_right, rotg};
@@ -43,15 +43,16 @@ fn rotation_of(p: f64, q: f64) -> JacobiRotation
     adjoint(rotg(p, q).rot)
 }
 
-// The two numbers that the next exchange is made of, after that of rows j and j + 1 by `rot`, none at the form's end.
-#[tactic(auto, unfolding(crate::specs::Ahead::beside))]
+// The two numbers that the next exchange is made of, after that of rows j and j + 1 by `rot`; none at the form's end,
+// and before a 2-block, past which no rotation goes.
+#[tactic(auto, unfolding(crate::specs::Ahead::beside, crate::specs::Ahead::last))]
 fn numbers_beside(s: Shape, t: &[f64], j: usize, rot: JacobiRotation, way: Way) -> Option<Pair>
     requires { Holds s t.now × (j + 2 ≤ s.n) }
-    ensures { MatchOption result (Last way j s.n) (λ w. pair w ≡ beside way s.ld j (rotation rot) t.now) }
+    ensures { MatchOption result (last way s.ld s.n j t.now ≡ true) (λ w. pair w ≡ beside way s.ld j (rotation rot) t.now) }
 {
     match way {
         Way::Up => {
-            if j == 0 {
+            if j == 0 || s.crosses(t, j - 1) {
                 return None;
             }
             let w = apply_on_the_right(rot, s.get(t, j - 1, j), s.get(t, j - 1, j + 1));
@@ -59,7 +60,7 @@ fn numbers_beside(s: Shape, t: &[f64], j: usize, rot: JacobiRotation, way: Way) 
             Some(Pair { x: w.x, y })
         }
         Way::Down => {
-            if s.n <= j + 2 {
+            if s.n <= j + 2 || s.two_block(t, j + 2) {
                 return None;
             }
             let w = apply_on_the_right(rot, s.get(t, j, j + 2), s.get(t, j + 1, j + 2));
